@@ -1,0 +1,61 @@
+-- How a command is spelled: its words with one space between two, numbers without leading zeros.
+use Rattle.std.specs.Prelude.{◌≡◌, ℕ, ◌<◌, ◌≤◌, ◌^◌, List, [], ◌∷◌, ◌++◌, codes}
+use Rattle.space_model.specs.declared.command.Command.{Command}
+use Rattle.space_model.specs.declared.command.Command.TheVariants.{New, Set, Store, Load, Same}
+use Rattle.space_model.specs.declared.command.Input.{Input}
+use Rattle.space_model.specs.declared.command.Input.TheVariants.{From, Nil, Small}
+use Rattle.space_model.specs.declared.command.Operand.{Operand}
+use Rattle.space_model.specs.declared.command.Operand.TheVariants.{Root, Word}
+use Rattle.space_model.specs.declared.object.Guard.{Guard}
+use Rattle.space_model.specs.declared.object.Guard.TheVariants.{Protected, Unprotected}
+use Rattle.space_model.specs.declared.object.Style.{Style}
+use Rattle.space_model.specs.declared.object.Style.TheVariants.{Movable, Keeping}
+use Rattle.space_model.specs.Idents.{IsIdent}
+use Rattle.space_model.specs.Spelling.{Piece, Say, Number, Called, text_of_pieces}
+
+abbrev pub operand_pieces : Operand → List Piece
+operand_pieces (Root name) = Called name ∷ []
+operand_pieces (Word place) = Say (codes "@") ∷ Number place ∷ []
+
+abbrev pub input_pieces : Input → List Piece
+input_pieces (From operand) = operand_pieces operand
+input_pieces Nil = Say (codes "nil") ∷ []
+input_pieces (Small number) = Say (codes "=") ∷ Number number ∷ []
+
+abbrev pub guard_text : Guard → List ℕ
+guard_text Protected = codes " P"
+guard_text Unprotected = codes " U"
+
+abbrev pub style_text : Style → List ℕ
+style_text Movable = codes " M"
+style_text Keeping = codes " K"
+
+abbrev pub command_pieces : Command → List Piece
+command_pieces (New root fields guard style) = Say (codes "new ") ∷ Called root ∷ Say (codes " ") ∷ Number fields ∷ Say (guard_text guard) ∷ Say (style_text style) ∷ []
+command_pieces (Set root value) = Say (codes "set ") ∷ Called root ∷ Say (codes " ") ∷ input_pieces value
+command_pieces (Store object index value) = Say (codes "store ") ∷ operand_pieces object ++ Say (codes " ") ∷ Number index ∷ Say (codes " ") ∷ input_pieces value
+command_pieces (Load root object index) = Say (codes "load ") ∷ Called root ∷ Say (codes " ") ∷ operand_pieces object ++ Say (codes " ") ∷ Number index ∷ []
+command_pieces (Same left right) = Say (codes "same ") ∷ operand_pieces left ++ Say (codes " ") ∷ operand_pieces right
+
+-- the line of a command, without its LF
+abbrev pub command_text : Command → List ℕ
+command_text command = text_of_pieces (command_pieces command)
+
+-- the operand has a line; a word of the stack has none yet
+abbrev pub IsWritableOperand : Operand → Type 0
+IsWritableOperand (Root name) = IsIdent name
+IsWritableOperand (Word place) = ⊥
+
+-- the value has a line: a small integer is below 2 ^ 62
+abbrev pub IsWritableInput : Input → Type 0
+IsWritableInput (From operand) = IsWritableOperand operand
+IsWritableInput Nil = Unit {0}
+IsWritableInput (Small number) = number < 2 ^ 62
+
+-- the command is in the grammar
+abbrev pub IsWritable : Command → Type 0
+IsWritable (New root fields guard style) = IsIdent root × (fields ≤ 3) × (guard ≡ Protected) × (style ≡ Movable)
+IsWritable (Set root value) = IsIdent root × IsWritableInput value
+IsWritable (Store object index value) = IsWritableOperand object × (index < 2 ^ 64) × IsWritableInput value
+IsWritable (Load root object index) = IsIdent root × IsWritableOperand object × (index < 2 ^ 64)
+IsWritable (Same left right) = IsWritableOperand left × IsWritableOperand right

@@ -1,0 +1,70 @@
+-- The lines of a trace, and the commands that they are: one row a form. The language is this project's own.
+use Rattle.std.specs.Prelude.{◌≡◌, ℕ, ◌^◌, ◌<◌, ◌≤◌, ◌==◌, List, [], ◌∷◌, ◌++◌, length, codes, Option, None, Some}
+use Rattle.std.specs.Option.{option_to_list}
+use Rattle.std.specs.List.{slice_split}
+use Rattle.std.specs.Str.Parse.{AllDigits, digits_value}
+use Rattle.space_model.specs.declared.command.Command.{Command}
+use Rattle.space_model.specs.declared.command.Command.TheVariants.{New, Set, Store, Load, Same}
+use Rattle.space_model.specs.declared.command.Input.{Input}
+use Rattle.space_model.specs.declared.command.Input.TheVariants.{From, Nil, Small}
+use Rattle.space_model.specs.declared.command.Operand.{Operand}
+use Rattle.space_model.specs.declared.command.Operand.TheVariants.{Root, Word}
+use Rattle.space_model.specs.declared.object.Guard.TheVariants.{Protected}
+use Rattle.space_model.specs.declared.object.Style.TheVariants.{Movable}
+use Rattle.space_model.specs.Idents.{IsIdent}
+use Rattle.space_model.specs.Lines.{lines_of}
+
+-- the words of a line, cut at each space
+abbrev pub words_of : List ℕ → List (List ℕ)
+words_of line = slice_split (λ b. b == 32) line
+
+-- 1 to 20 digits of a number below 2 ^ 64
+pub record IsNumber (text : List ℕ) (number : ℕ) : Type 0 where
+  pub some : 0 < length text
+  pub short : length text ≤ 20
+  pub digits : AllDigits 10 text
+  pub value : number ≡ digits_value 10 text
+  pub fits : number < 2 ^ 64
+
+-- the word is an operand; a word of the stack has no spelling yet
+abbrev pub IsOperand : List ℕ → Operand → Type 0
+IsOperand word (Root name) = (word ≡ name) × IsIdent name
+IsOperand word (Word place) = ⊥
+
+-- the word is a value: an operand, `nil`, or `=` and a small number
+abbrev pub IsInput : List ℕ → Input → Type 0
+IsInput word (From operand) = IsOperand word operand
+IsInput word Nil = word ≡ codes "nil"
+IsInput word (Small number) = (digits : List ℕ) × (word ≡ 61 ∷ digits) × IsNumber digits number × (number < 2 ^ 62)
+
+-- the words are a command
+abbrev pub IsCommand : List (List ℕ) → Command → Type 0
+IsCommand words (New root fields guard style) =
+    (digits : List ℕ) × (words ≡ codes "new" ∷ root ∷ digits ∷ codes "P" ∷ codes "M" ∷ []) × IsIdent root × IsNumber digits fields × (fields ≤ 3) × (guard ≡ Protected) × (style ≡ Movable)
+IsCommand words (Set root value) =
+    (v : List ℕ) × (words ≡ codes "set" ∷ root ∷ v ∷ []) × IsIdent root × IsInput v value
+IsCommand words (Store object index value) =
+    (a : List ℕ) × (digits : List ℕ) × (v : List ℕ) × (words ≡ codes "store" ∷ a ∷ digits ∷ v ∷ []) × IsOperand a object × IsNumber digits index × IsInput v value
+IsCommand words (Load root object index) =
+    (a : List ℕ) × (digits : List ℕ) × (words ≡ codes "load" ∷ root ∷ a ∷ digits ∷ []) × IsIdent root × IsOperand a object × IsNumber digits index
+IsCommand words (Same left right) =
+    (a : List ℕ) × (b : List ℕ) × (words ≡ codes "same" ∷ a ∷ b ∷ []) × IsOperand a left × IsOperand b right
+
+-- a line that is no command and has no answer; there is none yet
+abbrev pub IsBlank : List ℕ → Type 0
+IsBlank line = ⊥
+
+-- what a line is: a command, or a blank
+abbrev pub IsReading : List ℕ → Option Command → Type 0
+IsReading line None = IsBlank line
+IsReading line (Some command) = IsCommand (words_of line) command
+
+-- what the lines are, one after another
+abbrev pub AreCommands : List (List ℕ) → List Command → Type 0
+AreCommands [] commands = commands ≡ []
+AreCommands (line ∷ lines) commands =
+    (found : Option Command) × (rest : List Command) × (length line ≤ 4096) × IsReading line found × (commands ≡ option_to_list found ++ rest) × AreCommands lines rest
+
+-- the commands of the bytes of an input
+abbrev pub Commands : List ℕ → List Command → Type 0
+Commands bytes commands = AreCommands (lines_of bytes) commands

@@ -1,0 +1,10 @@
+pub mod Lines
+pub mod Idents
+pub mod StoredIdents
+pub mod Words
+pub mod Layout
+pub mod Spelling
+pub mod Grammar
+pub mod CommandTexts
+pub mod Outputs
+pub mod Texts

@@ -1,0 +1,65 @@
+-- The bytes of the outputs. The texts are this project's own.
+use Rattle.std.specs.Prelude.{ℕ, Bool, true, false, List, [], ◌∷◌, ◌++◌, codes}
+use Rattle.std.specs.List.{flat_map}
+use Rattle.space_model.specs.declared.event.Event.{Event}
+use Rattle.space_model.specs.declared.event.Event.TheVariants.{Gone, Verdict}
+use Rattle.space_model.specs.declared.event.Kind.{Kind}
+use Rattle.space_model.specs.declared.event.Kind.TheVariants.{Minor, Major, Full as FullKind}
+use Rattle.space_model.specs.declared.reply.Refusal.{Refusal}
+use Rattle.space_model.specs.declared.reply.Refusal.TheVariants.{NoRoot, NoWord, NotObject, NoField}
+use Rattle.space_model.specs.declared.reply.Reply.{Reply}
+use Rattle.space_model.specs.declared.reply.Reply.TheVariants.{Made, Full, NoMemory, Done, Read, Truth, Refused}
+use Rattle.space_model.specs.declared.value.Value.{Value}
+use Rattle.space_model.specs.declared.value.Value.TheVariants.{Nil, Small, Name}
+use Rattle.space_model.specs.Outputs.{Output, Told, Replied}
+use Rattle.space_model.specs.Spelling.{Piece, Say, Number, Hex, text_of_pieces, IsSpelled}
+
+abbrev pub kind_text : Kind → List ℕ
+kind_text Minor = codes "minor"
+kind_text Major = codes "major"
+kind_text FullKind = codes "full"
+
+abbrev pub event_pieces : Event → List Piece
+event_pieces (Gone name) = Say (codes "! gone #") ∷ Number name ∷ []
+event_pieces (Verdict kind gone) = Say (codes "! verdict ") ∷ Say (kind_text kind) ∷ Say (codes " ") ∷ Number gone ∷ []
+
+abbrev pub value_pieces : Value → List Piece
+value_pieces Nil = Say (codes "nil") ∷ []
+value_pieces (Small number) = Say (codes "=") ∷ Number number ∷ []
+value_pieces (Name name) = Say (codes "#") ∷ Number name ∷ []
+
+abbrev pub refusal_text : Refusal → List ℕ
+refusal_text NoRoot = codes "error no root"
+refusal_text NoWord = codes "error no word"
+refusal_text NotObject = codes "error not an object"
+refusal_text NoField = codes "error no field"
+
+abbrev pub truth_text : Bool → List ℕ
+truth_text true = codes "true"
+truth_text false = codes "false"
+
+abbrev pub reply_pieces : Reply → List Piece
+reply_pieces (Made name address) = Say (codes "#") ∷ Number name ∷ Say (codes " ") ∷ Hex address ∷ []
+reply_pieces Full = Say (codes "full") ∷ []
+reply_pieces NoMemory = Say (codes "no memory") ∷ []
+reply_pieces Done = Say (codes "ok") ∷ []
+reply_pieces (Read value) = value_pieces value
+reply_pieces (Truth answer) = Say (truth_text answer) ∷ []
+reply_pieces (Refused why) = Say (refusal_text why) ∷ []
+
+abbrev pub output_pieces : Output → List Piece
+output_pieces (Told event) = event_pieces event
+output_pieces (Replied reply) = reply_pieces reply
+
+-- a line, with its LF
+abbrev pub line_of_pieces : List Piece → List ℕ
+line_of_pieces pieces = text_of_pieces pieces ++ 10 ∷ []
+
+-- the lines, one after another
+abbrev pub text_of : List Output → List ℕ
+text_of outputs = flat_map (λ output. line_of_pieces (output_pieces output)) outputs
+
+-- the numbers of each output are below 2 ^ 64, so it can be written
+abbrev pub AreSpelled : List Output → Type 0
+AreSpelled [] = Unit {0}
+AreSpelled (output ∷ outputs) = IsSpelled (output_pieces output) × AreSpelled outputs

@@ -1,0 +1,56 @@
+// The commands of a trace. The language is this project's own.
+use crate::{Guard, Ident, Style};
+
+/// What a command reads: a root, or a word of the stack by its place from the top, which is 0.
+#[derive(Clone, Copy)]
+pub enum Operand {
+    /// The value that the root holds.
+    Root(Ident),
+    /// The value of the stack word at this place.
+    Word(u64),
+}
+
+/// A value that a command is given.
+#[derive(Clone, Copy)]
+pub enum Input {
+    /// The value of an operand.
+    From(Operand),
+    /// Nil.
+    Nil,
+    /// A small integer, which a line spells below 2^62.
+    Small(u64),
+}
+
+/// One line of a trace. It holds no memory of its own.
+#[derive(Clone, Copy)]
+pub enum Command {
+    /// Makes an object whose fields are nil; the root holds it.
+    New {
+        root: Ident,
+        fields: u64,
+        guard: Guard,
+        style: Style,
+    },
+    /// The root holds the value; a new root comes last.
+    Set {
+        root: Ident,
+        value: Input,
+    },
+    /// A field of the object becomes the value, with the write barrier.
+    Store {
+        object: Operand,
+        index: u64,
+        value: Input,
+    },
+    /// The root holds the value of a field of the object; a new root comes last.
+    Load {
+        root: Ident,
+        object: Operand,
+        index: u64,
+    },
+    /// Tells whether two values are one.
+    Same {
+        left: Operand,
+        right: Operand,
+    },
+}

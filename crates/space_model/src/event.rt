@@ -1,0 +1,21 @@
+// What happens in a command before it is answered.
+
+/// Which verdict ends a marking.
+#[derive(Clone, Copy, Debug, PartialEq, Eq)]
+pub enum Kind {
+    /// Of a minor marking.
+    Minor,
+    /// Of a marking that went on over commands.
+    Major,
+    /// Of a whole marking.
+    Full,
+}
+
+/// A line that is written before the reply of a command.
+#[derive(Clone, Copy, Debug, PartialEq, Eq)]
+pub enum Event {
+    /// The object with this name is gone.
+    Gone { name: u64 },
+    /// A verdict was given, and this many objects are gone by it.
+    Verdict { kind: Kind, gone: u64 },
+}

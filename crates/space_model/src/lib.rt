@@ -1,0 +1,20 @@
+//! What a trace means: its values, commands, replies and states, and which answers are lawful.
+#![tactic(auto)]
+
+mod command;
+mod event;
+mod ident;
+mod layout;
+mod ledger;
+mod object;
+mod reply;
+mod value;
+
+pub use command::{Command, Input, Operand};
+pub use event::{Event, Kind};
+pub use ident::Ident;
+pub use layout::{MOST_FIELDS, POOLS, address_of, fields_of, page_slots, pool_for, slot_bytes};
+pub use ledger::{Ledger, Steps};
+pub use object::{Guard, Style};
+pub use reply::{Refusal, Reply};
+pub use value::{Value, small_of, small_word};

@@ -1,0 +1,34 @@
+// What a command is answered.
+use crate::Value;
+
+/// Why a command was refused. The refusal that stands first here is the answer, where several apply.
+#[derive(Clone, Copy, Debug, PartialEq, Eq)]
+pub enum Refusal {
+    /// An operand is no root.
+    NoRoot,
+    /// The stack has no word at that place.
+    NoWord,
+    /// An object is needed and the value is none, or a value is needed and the stack word has none.
+    NotObject,
+    /// The object has no such field.
+    NoField,
+}
+
+/// The last line of a command.
+#[derive(Clone, Copy, Debug, PartialEq, Eq)]
+pub enum Reply {
+    /// The object with this name was born at this address, a number of bytes.
+    Made { name: u64, address: u64 },
+    /// No object can be made: there are as many pages as may be, and none has a free slot.
+    Full,
+    /// Memory was lacking, and nothing was changed.
+    NoMemory,
+    /// The command was done.
+    Done,
+    /// The value that was read.
+    Read { value: Value },
+    /// The answer to a question.
+    Truth { yes: bool },
+    /// The command was refused, and nothing was changed.
+    Refused { why: Refusal },
+}
