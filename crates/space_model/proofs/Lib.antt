@@ -1,2 +1,16 @@
 pub mod LineLemmas
 pub mod IdentLemmas
+pub mod Members
+pub mod Reaching
+pub mod Growing
+pub mod ReachedLaws
+pub mod NotedLaws
+pub mod MapLaws
+pub mod PageLaws
+pub mod SlotLaws
+pub mod LayoutKept
+pub mod NamesKept
+pub mod ValuesPresent
+pub mod SoundKept
+pub mod Cutting
+pub mod Apart

@@ -4,9 +4,11 @@
 mod command;
 mod event;
 mod ident;
+mod laws;
 mod layout;
 mod ledger;
 mod object;
+mod phase;
 mod reply;
 mod value;
 
@@ -16,5 +18,6 @@ pub use ident::Ident;
 pub use layout::{MOST_FIELDS, POOLS, address_of, fields_of, page_slots, pool_for, slot_bytes};
 pub use ledger::{Ledger, Steps};
 pub use object::{Guard, Style};
+pub use phase::Phase;
 pub use reply::{Refusal, Reply};
 pub use value::{Value, small_of, small_word};

@@ -1,0 +1,116 @@
+-- A birth and a store keep the layout.
+use Rattle.std.proofs.Common.{◌≡◌, ◌≢◌, ◌⊎◌, ℕ, ◌+◌, ◌<◌, ◌≤◌, List, [], ◌∷◌, ◌++◌, length, nat_eq, refl, ap, ◌∙◌, sym, subst, arith, Option, None, Some, ⊎_elim, inl, inr}
+use Rattle.std.specs.Ordering.{nat_cmp}
+use Rattle.std.specs.FinMap.{FinMap, get, insert}
+use Rattle.std.proofs.lemmas.Bool.{cases_eq}
+use Rattle.std.proofs.lemmas.Bool.Decides.{nat_tests}
+use Rattle.std.proofs.lemmas.Grind.{common_steps}
+use Rattle.std.proofs.lemmas.List.{length-replicate, length-append}
+use Rattle.space_model.specs.declared.object.Guard.{Guard}
+use Rattle.space_model.specs.declared.object.Style.{Style}
+use Rattle.space_model.specs.declared.value.Value.TheVariants.{Nil}
+use Rattle.space_model.specs.Graph.{Item}
+use Rattle.space_model.specs.Layout.{page_of, pool_for, slot_address, page_slots, slot_bytes}
+use Rattle.space_model.specs.New.{IsBirthPlace}
+use Rattle.space_model.specs.Pages.{pool_at, with_pool}
+use Rattle.space_model.specs.Pieces.{new_item, born}
+use Rattle.space_model.specs.Sound.{pool_of, IsSlotOf, AreSlots, SoundLayout}
+use Rattle.space_model.specs.State.{State}
+use Rattle.space_model.proofs.PageLaws.{pool_at-with_pool, length-with_pool, page_of-slot_address}
+use Rattle.space_model.proofs.SlotLaws.{item_of-push, item_of-new, held_pool, AreSlots-same, AreSlots-insert}
+
+-- an address where an object may be born
+pub record IsFreshSlot (s : State) (pool address : ℕ) : Type 0 where
+  pub slot : ℕ
+  pub below : page_of address ≤ length s.heap.pages
+  pub limited : page_of address < s.heap.limit
+  pub fits : (pool_at s.heap.pages (page_of address) ≡ Some pool) ⊎ (pool_at s.heap.pages (page_of address) ≡ None)
+  pub on_page : slot < page_slots pool
+  pub is : address ≡ slot_address (page_of address) pool slot
+  pub no_place : (name : ℕ) → get s.heap.place name ≢ Some address
+
+has_slot : (fields : ℕ) → 0 < page_slots (pool_for fields)
+unfolding page_slots pool_for slot_bytes
+has_slot fields = grind (arith, nat_tests)
+
+within : (pages : List (Option ℕ)) (page pool : ℕ) → pool_at pages page ≡ Some pool → page < length pages
+within pages page pool e = grind (arith, common_steps)
+
+past : (pages : List (Option ℕ)) → pool_at pages (length pages) ≡ None
+past pages = grind (arith, common_steps)
+
+-- the place of a birth is fresh
+pub fresh_slot : (s : State) (fields address : ℕ) → SoundLayout s.graph s.heap.place s.heap.pages s.heap.limit → IsBirthPlace s (pool_for fields) address → IsFreshSlot s (pool_for fields) address
+fresh_slot s fields address h = ⊎_elim
+    (λ new.
+    let at = new.free.at in
+    let on : page_of address ≡ at.page = ap page_of at.is ∙ page_of-slot_address at.page (pool_for fields) at.slot at.on_page in
+    let here = within s.heap.pages at.page (pool_for fields) at.has_pool in
+    let limited = h.limited in
+    record {
+      slot = at.slot;
+      below = omega arith;
+      limited = omega arith;
+      fits = inl (ap (pool_at s.heap.pages) on ∙ at.has_pool);
+      on_page = at.on_page;
+      is = at.is ∙ ap (λ page. slot_address page (pool_for fields) at.slot) (sym on);
+      no_place = new.free.no_place;
+    })
+    (λ (full, next).
+    let on : page_of address ≡ length s.heap.pages = ap page_of next.is ∙ page_of-slot_address (length s.heap.pages) (pool_for fields) 0 (has_slot fields) in
+    let below = next.below in
+    record {
+      slot = 0;
+      below = omega arith;
+      limited = omega arith;
+      fits = inr (ap (pool_at s.heap.pages) on ∙ past s.heap.pages);
+      on_page = has_slot fields;
+      is = next.is ∙ ap (λ page. slot_address page (pool_for fields) 0) (sym on);
+      no_place = λ name e.
+          let slot = h.placed.at name address e in
+          let where_it_is : page_of address ≡ slot.page = ap page_of slot.is ∙ page_of-slot_address slot.page _ slot.slot slot.on_page in
+          let inside = within s.heap.pages slot.page _ slot.has_pool in
+          omega arith;
+    })
+
+module _ (s : State) (root : List ℕ) (fields : ℕ) (guard : Guard) (style : Style) (address : ℕ) (h : SoundLayout s.graph s.heap.place s.heap.pages s.heap.limit) (f : IsFreshSlot s (pool_for fields) address) where
+  abbrev graph' : List Item
+  graph' = s.graph ++ new_item guard style fields ∷ []
+
+  abbrev pages' : List (Option ℕ)
+  pages' = with_pool s.heap.pages (page_of address) (pool_for fields)
+
+  longer : length s.graph + 1 ≤ length graph'
+  longer = let l = length-append s.graph (new_item guard style fields ∷ []) in omega arith
+
+  pools : (map : FinMap nat_cmp ℕ) → AreSlots s.graph s.heap.pages map → (n a : ℕ) → get map n ≡ Some a → pool_at pages' (page_of a) ≡ pool_at s.heap.pages (page_of a)
+  pools map m n a e =
+      let p = pool_at-with_pool s.heap.pages (page_of address) (pool_for fields) (page_of a) f.below in
+      let k = held_pool s.graph s.heap.pages n a (m.at n a e) in
+      ⊎_elim
+      (λ same. let q : pool_at s.heap.pages (page_of a) ≡ pool_at s.heap.pages (page_of address) = ap (pool_at s.heap.pages) same in
+      ⊎_elim (λ x. grind (arith, nat_tests, p, same, q, x)) (λ x. absurd (grind (arith, k, q, x))) f.fits)
+      (λ other. grind (arith, nat_tests, p, other))
+      (cases_eq (page_of a) (page_of address))
+
+  stay : (map : FinMap nat_cmp ℕ) → AreSlots s.graph s.heap.pages map → AreSlots graph' pages' map
+  stay map m = AreSlots-same s.graph graph' s.heap.pages pages' map (let l = longer in omega arith) (λ n a b. ap (λ (item : Item). pool_for (length item.values)) (item_of-push s.graph (new_item guard style fields) n a b)) (pools map m) m
+
+  new_slot : IsSlotOf graph' pages' (length s.graph + 1) address
+  new_slot =
+      let e : pool_of graph' (length s.graph + 1) ≡ pool_for fields = ap (λ (item : Item). pool_for (length item.values)) (item_of-new s.graph (new_item guard style fields)) ∙ ap pool_for (length-replicate fields Nil) in
+      let p = pool_at-with_pool s.heap.pages (page_of address) (pool_for fields) (page_of address) f.below in
+      let here : pool_at pages' (page_of address) ≡ Some (pool_for fields) = grind (arith, nat_tests, p) in
+      record {
+        page = page_of address;
+        slot = f.slot;
+        has_pool = here ∙ ap Some (sym e);
+        on_page = subst (λ q. f.slot < page_slots q) (sym e) f.on_page;
+        is = f.is ∙ ap (λ q. slot_address (page_of address) q f.slot) (sym e);
+      }
+
+  pub SoundLayout-born : SoundLayout graph' (insert s.heap.place (length s.graph + 1) address) pages' s.heap.limit
+  SoundLayout-born = record {
+    placed = AreSlots-insert graph' pages' s.heap.place (length s.graph + 1) address (omega arith) longer new_slot f.no_place (stay s.heap.place h.placed);
+    limited = length-with_pool s.heap.pages (page_of address) (pool_for fields) s.heap.limit f.limited h.limited f.below;
+  }

@@ -1,0 +1,60 @@
+-- Maps whose names stand at slots of their own.
+use Rattle.std.proofs.Common.{◌≡◌, ◌≢◌, ◌⊎◌, ℕ, ◌+◌, ◌-◌, ◌<◌, ◌≤◌, true, false, List, [], ◌∷◌, ◌++◌, length, nat_eq, get_or, refl, sym, ap, ◌∙◌, subst, arith, Option, None, Some, ⊎_elim, inl, inr}
+use Rattle.std.specs.Prelude.{is_some}
+use Rattle.std.specs.Set.{is_member}
+use Rattle.std.specs.Ordering.{nat_cmp}
+use Rattle.std.specs.FinMap.{FinMap, get, insert}
+use Rattle.std.proofs.lemmas.Bool.{cases_Bool, cases_eq}
+use Rattle.std.proofs.lemmas.Bool.Decides.{nat_tests}
+use Rattle.std.proofs.Math.ListN.{get_or-append}
+use Rattle.std.proofs.Math.Seq.{get_or-append_seam}
+use Rattle.space_model.specs.Layout.{page_of, slot_address, page_slots}
+use Rattle.space_model.specs.Graph.{Item, no_item, item_of}
+use Rattle.space_model.specs.Pages.{pool_at}
+use Rattle.space_model.specs.Sound.{pool_of, IsSlotOf, AreSlots}
+use Rattle.space_model.proofs.MapLaws.{get-insert_name}
+use Rattle.space_model.proofs.PageLaws.{page_of-slot_address}
+
+pub item_of-push : (graph : List Item) (item : Item) (name : ℕ) → 0 < name → name ≤ length graph → item_of (graph ++ item ∷ []) name ≡ item_of graph name
+item_of-push graph item name some born = get_or-append graph (item ∷ []) no_item (name - 1) (omega arith)
+
+pub item_of-new : (graph : List Item) (item : Item) → item_of (graph ++ item ∷ []) (length graph + 1) ≡ item
+item_of-new graph item =
+    let e : (length graph + 1) - 1 ≡ length graph = omega arith in
+    ap (λ i. get_or (graph ++ item ∷ []) i no_item) e ∙ get_or-append_seam graph item [] no_item
+
+pub IsSlotOf-same : (graph graph' : List Item) (pages pages' : List (Option ℕ)) (name address : ℕ) → pool_of graph' name ≡ pool_of graph name → pool_at pages' (page_of address) ≡ pool_at pages (page_of address) → IsSlotOf graph pages name address → IsSlotOf graph' pages' name address
+IsSlotOf-same graph graph' pages pages' name address pool p h =
+    let on : page_of address ≡ h.page = ap page_of h.is ∙ page_of-slot_address h.page (pool_of graph name) h.slot h.on_page in
+    let has : pool_at pages' h.page ≡ Some (pool_of graph name) = rw on at p ∙ h.has_pool in
+    record {
+      page = h.page;
+      slot = h.slot;
+      has_pool = has ∙ ap Some (sym pool);
+      on_page = subst (λ q. h.slot < page_slots q) (sym pool) h.on_page;
+      is = h.is ∙ ap (λ q. slot_address h.page q h.slot) (sym pool);
+    }
+
+-- the page of a slot that is held has its pool
+pub held_pool : (graph : List Item) (pages : List (Option ℕ)) (name address : ℕ) → IsSlotOf graph pages name address → pool_at pages (page_of address) ≡ Some (pool_of graph name)
+held_pool graph pages name address h = ap (pool_at pages) (ap page_of h.is ∙ page_of-slot_address h.page (pool_of graph name) h.slot h.on_page) ∙ h.has_pool
+
+-- the pools of pages that are used stay, and the born names stay as they were
+pub AreSlots-same : (graph graph' : List Item) (pages pages' : List (Option ℕ)) (map : FinMap nat_cmp ℕ) → length graph ≤ length graph' → ((name : ℕ) → 0 < name → name ≤ length graph → pool_of graph' name ≡ pool_of graph name) → ((name address : ℕ) → get map name ≡ Some address → pool_at pages' (page_of address) ≡ pool_at pages (page_of address)) → AreSlots graph pages map → AreSlots graph' pages' map
+AreSlots-same graph graph' pages pages' map long same pools h = record {
+  born = λ n a e. let b = h.born n a e in (b.0, omega arith);
+  at = λ n a e. let b = h.born n a e in IsSlotOf-same graph graph' pages pages' n a (same n b.0 b.1) (pools n a e) (h.at n a e);
+  once = h.once;
+}
+
+-- one more name, at an address of its own
+pub AreSlots-insert : (graph : List Item) (pages : List (Option ℕ)) (map : FinMap nat_cmp ℕ) (name address : ℕ) → 0 < name → name ≤ length graph → IsSlotOf graph pages name address → ((other : ℕ) → get map other ≢ Some address) → AreSlots graph pages map → AreSlots graph pages (insert map name address)
+AreSlots-insert graph pages map name address some born slot free h = record {
+  born = λ n a e. let g = get-insert_name map name address n in let b = h.born n a in grind (arith, nat_tests, g, e, b, cases_eq n name);
+  at = λ n a e. ⊎_elim
+      (λ same. let g = get-insert_name map name address n in let q : a ≡ address = grind (arith, nat_tests, g, e, same) in
+      subst (λ x. IsSlotOf graph pages x a) (sym same) (subst (λ x. IsSlotOf graph pages name x) (sym q) slot))
+      (λ other. let g = get-insert_name map name address n in h.at n a (grind (arith, nat_tests, g, e, other)))
+      (cases_eq n name);
+  once = λ n k a e f. grind (arith, nat_tests, get-insert_name map name address n, get-insert_name map name address k, e, f, h.once n k a, free n, free k, cases_eq n name, cases_eq k name);
+}

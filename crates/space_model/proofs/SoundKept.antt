@@ -1,0 +1,152 @@
+-- The opening is sound, and lawful commands keep states so.
+use Rattle.std.proofs.Common.{◌≡◌, ◌⊎◌, ℕ, ◌+◌, true, false, List, [], ◌∷◌, ◌++◌, length, nat_eq, refl, sym, ap, ◌∙◌, subst, arith, ⊎_elim, Option, None, Some, Result, Ok, Err}
+use Rattle.std.specs.Prelude.{is_some}
+use Rattle.std.specs.List.{IsDistinct}
+use Rattle.std.specs.Set.{is_member}
+use Rattle.std.specs.Ordering.{nat_cmp}
+use Rattle.std.specs.FinMap.{FinMap, get, keys, empty, get-empty}
+use Rattle.std.proofs.lemmas.Bool.{false≢true, and_parts}
+use Rattle.space_model.specs.declared.command.Command.{Command}
+use Rattle.space_model.specs.declared.command.Command.TheVariants.{New, Set, Store, Load, Same}
+use Rattle.space_model.specs.declared.command.Input.{Input}
+use Rattle.space_model.specs.declared.command.Operand.{Operand}
+use Rattle.space_model.specs.declared.object.Guard.{Guard}
+use Rattle.space_model.specs.declared.object.Style.{Style}
+use Rattle.space_model.specs.declared.event.Event.{Event}
+use Rattle.space_model.specs.declared.reply.Refusal.{Refusal}
+use Rattle.space_model.specs.declared.reply.Reply.{Reply}
+use Rattle.space_model.specs.declared.reply.Reply.TheVariants.{Made, Full, NoMemory, Done, Read}
+use Rattle.space_model.specs.declared.value.Value.{Value}
+use Rattle.space_model.specs.Answers.{WritesRoot, SetReply, LoadReply, StoreReply, field_value, written_field}
+use Rattle.space_model.specs.Graph.{IsChild}
+use Rattle.space_model.specs.Lawful.{Effects, Lawful, LawfulAll}
+use Rattle.space_model.specs.Layout.{pool_for}
+use Rattle.space_model.specs.Moments.{noted, parents_of_young_in}
+use Rattle.space_model.specs.New.{IsBirthPlace, NewReply}
+use Rattle.space_model.specs.Operands.{operand_value, input_value}
+use Rattle.space_model.specs.Outputs.{Output}
+use Rattle.space_model.specs.Pieces.{born, rooted, stored, Stored}
+use Rattle.space_model.specs.Reach.{IsStart, Reach}
+use Rattle.space_model.specs.Roots.{root_names}
+use Rattle.space_model.specs.Sound.{Sound, SoundNames, SoundLayout, SoundMoments}
+use Rattle.space_model.specs.State.{State, opening}
+use Rattle.space_model.proofs.LayoutKept.{fresh_slot, SoundLayout-born}
+use Rattle.space_model.proofs.MapLaws.{some_get}
+use Rattle.space_model.proofs.NamesKept.{SoundNames-born, SoundNames-rooted, SoundNames-stored, SoundLayout-stored}
+use Rattle.space_model.proofs.NotedLaws.{SoundMoments-noted}
+use Rattle.space_model.proofs.Members.{member_filter}
+use Rattle.space_model.proofs.ReachedLaws.{member-keys}
+use Rattle.space_model.proofs.Reaching.{IsReached-least}
+use Rattle.space_model.proofs.ValuesPresent.{IsPresentValue, input_present, read_present, write_present}
+
+abbrev none_yet : FinMap nat_cmp ℕ
+none_yet = empty
+
+none_in_empty : (name address : ℕ) → get none_yet name ≡ Some address → ⊥
+none_in_empty name address e = let f : None ≡ Some address = sym (get-empty nat_cmp name) ∙ e in cc
+
+nothing_present : (name : ℕ) → is_some (get none_yet name) ≡ true → ⊥
+nothing_present name e = let a = some_get _ e in none_in_empty name a.0 a.1
+
+no_root : (name : ℕ) → is_member nat_eq (root_names []) name ≡ true → ⊥
+unfolding root_names
+no_root name m = false≢true m
+
+nothing_reached : (limit : ℕ) (name : ℕ) → Reach (opening limit) name → ⊥
+nothing_reached limit = IsReached-least (IsChild []) (IsStart (opening limit)) (λ n. ⊥)
+    (λ m n none c. none)
+    no_start
+  where
+    no_start : (n : ℕ) → IsStart (opening limit) n → ⊥
+    no_start n start = ⊎_elim (λ r. no_root n r) (λ w. false≢true w.1) start
+
+no_parents : (name : ℕ) → is_member nat_eq (parents_of_young_in [] none_yet []) name ≡ true → ⊥
+unfolding parents_of_young_in
+no_parents name m = nothing_present name (sym (member-keys none_yet name) ∙ (and_parts _ _ (sym (member_filter _ (keys none_yet) name) ∙ m)).0)
+
+pub Sound-opening : (limit : ℕ) → Sound (opening limit)
+unfolding IsDistinct
+Sound-opening limit = record {
+  layout = record {
+    placed = record {
+      born = λ n a e. absurd (none_in_empty n a e);
+      at = λ n a e. absurd (none_in_empty n a e);
+      once = λ n k a e f. absurd (none_in_empty n a e);
+    };
+    limited = omega arith;
+  };
+  names = record {
+    born_present = λ n some le. absurd (omega arith);
+    children_present = λ m n p c. absurd (nothing_present m p);
+    roots_present = λ n m. absurd (no_root n m);
+  };
+  moments = record {
+    seen = λ n r. absurd (nothing_reached limit n r);
+    once = tt;
+    mixed = λ n m. absurd (no_parents n m);
+  };
+}
+
+-- a state is sound after a piece, where its layout and its names are
+after_piece : (u t : State) → t ≡ noted u → SoundLayout u.graph u.heap.place u.heap.pages u.heap.limit → SoundNames u.graph u.roots u.heap.place → IsDistinct nat_eq u.history.seen → Sound t
+after_piece u t e layout names once = subst Sound (sym e) (record { layout = layout; names = names; moments = SoundMoments-noted u once })
+
+pub Sound-born : (s t : State) (root : List ℕ) (fields : ℕ) (guard : Guard) (style : Style) (address : ℕ) → IsBirthPlace s (pool_for fields) address → t ≡ noted (born s root fields guard style address) → Sound s → Sound t
+Sound-born s t root fields guard style address place e h =
+    after_piece (born s root fields guard style address) t e
+    (SoundLayout-born s root fields guard style address h.layout (fresh_slot s fields address h.layout place))
+    (SoundNames-born s root fields guard style address h.layout.placed h.names)
+    h.moments.once
+
+pub Sound-rooted : (s t : State) (root : List ℕ) (value : Value) → IsPresentValue s.heap.place value → t ≡ noted (rooted s root value) → Sound s → Sound t
+Sound-rooted s t root value present e h =
+    after_piece (rooted s root value) t e h.layout (SoundNames-rooted s.graph s.roots s.heap.place root value present h.names) h.moments.once
+
+pub Sound-stored : (s t : State) (name index : ℕ) (value : Value) → is_some (get s.heap.place name) ≡ true → IsPresentValue s.heap.place value → t ≡ noted (stored s name index value) → Sound s → Sound t
+Sound-stored s t name index value there present e h =
+    let at = some_get (get s.heap.place name) there in
+    let b = h.layout.placed.born name at.0 at.1 in
+    after_piece (stored s name index value) t e
+    (SoundLayout-stored s name index value h.layout.placed b.0 b.1 h.layout)
+    (SoundNames-stored s name index value h.layout.placed b.0 b.1 present h.names)
+    h.moments.once
+
+new_sound : (s t : State) (root : List ℕ) (fields : ℕ) (guard : Guard) (style : Style) (reply : Reply) → NewReply s root fields guard style reply t → Sound s → Sound t
+new_sound s t root fields guard style (Made name address) e h = Sound-born s t root fields guard style address e.1 e.2 h
+new_sound s t root fields guard style Full e h = subst Sound (sym e.1) h
+new_sound s t root fields guard style NoMemory e h = subst Sound (sym e) h
+new_sound s t root fields guard style _ e h = absurd e
+
+root_sound : (s t : State) (root : List ℕ) (value : Value) (answer reply : Reply) → IsPresentValue s.heap.place value → WritesRoot s root value answer reply t → Sound s → Sound t
+root_sound s t root value answer reply present w h = ⊎_elim
+    (λ (_, e). Sound-rooted s t root value present e h)
+    (λ (_, _, e). subst Sound (sym e) h)
+    w
+
+set_sound : (s t : State) (root : List ℕ) (input : Input) (found : Result Value Refusal) (reply : Reply) → input_value s input ≡ found → SetReply s root found reply t → Sound s → Sound t
+set_sound s t root input (Ok value) reply f e h = root_sound s t root value Done reply (input_present s h.names input value f) e h
+set_sound s t root input (Err why) reply f e h = subst Sound (sym e.same) h
+
+load_sound : (s t : State) (root : List ℕ) (object : Operand) (index : ℕ) (found : Result Value Refusal) (reply : Reply) → field_value s.graph (operand_value s object) index ≡ found → LoadReply s root found reply t → Sound s → Sound t
+load_sound s t root object index (Ok value) reply f e h = root_sound s t root value (Read value) reply (read_present s h.names object index value f) e h
+load_sound s t root object index (Err why) reply f e h = subst Sound (sym e.same) h
+
+store_sound : (s t : State) (object : Operand) (index : ℕ) (input : Input) (found : Result (ℕ × Value) Refusal) (reply : Reply) → written_field s.graph (operand_value s object) index (input_value s input) ≡ found → StoreReply s index found reply t → Sound s → Sound t
+store_sound s t object index input (Ok written) reply f e h =
+    let p = write_present s h.names object index input written f in
+    Sound-stored s t written.0 index written.1 p.0 p.1 e.1 h
+store_sound s t object index input (Err why) reply f e h = subst Sound (sym e.same) h
+
+effects_sound : (s t : State) (command : Command) (events : List Event) (reply : Reply) → Effects s command events reply t → Sound s → Sound t
+effects_sound s t (New root fields guard style) events reply e h = new_sound s t root fields guard style reply e.1 h
+effects_sound s t (Set root value) events reply e h = set_sound s t root value (input_value s value) reply refl e.1 h
+effects_sound s t (Store object index value) events reply e h = store_sound s t object index value (written_field s.graph (operand_value s object) index (input_value s value)) reply refl e.1 h
+effects_sound s t (Load root object index) events reply e h = load_sound s t root object index (field_value s.graph (operand_value s object) index) reply refl e.1 h
+effects_sound s t (Same left right) events reply e h = subst Sound (sym e.1.1) h
+
+pub lawful_sound : (s t : State) (command : Command) (outputs : List Output) → Lawful s command outputs t → Sound s → Sound t
+lawful_sound s t command outputs l h = effects_sound s t command l.events l.reply l.effects h
+
+pub lawful_all_sound : (s t : State) (commands : List Command) (outputs : List Output) → LawfulAll s commands outputs t → Sound s → Sound t
+lawful_all_sound s t [] outputs (_, e) h = subst Sound (sym e) h
+lawful_all_sound s t (command ∷ commands) outputs (now, later, mid, e, step, rest) h = lawful_all_sound mid t commands later rest (lawful_sound s mid command now step h)

@@ -1,0 +1,56 @@
+-- What operands stand for.
+use Rattle.std.specs.Prelude.{ℕ, ◌/◌, ◌%◌, ◌^◌, ◌==◌, ◌&&◌, nat_lt, if◌then◌else◌, reverse, List, Option, None, Some, Result, Ok, Err, slice_get}
+use Rattle.std.specs.Option.{ok_or, option_map}
+use Rattle.std.specs.Ordering.{nat_cmp}
+use Rattle.std.specs.FinMap.{FinMap}
+use Rattle.space_model.specs.declared.command.Input.{Input}
+use Rattle.space_model.specs.declared.command.Input.TheVariants.{From, Nil as NilInput, Small as SmallInput}
+use Rattle.space_model.specs.declared.command.Operand.{Operand}
+use Rattle.space_model.specs.declared.command.Operand.TheVariants.{Root as RootOperand, Word}
+use Rattle.space_model.specs.declared.reply.Refusal.{Refusal}
+use Rattle.space_model.specs.declared.reply.Refusal.TheVariants.{NoRoot, NoWord, NotObject, NoField}
+use Rattle.space_model.specs.declared.value.Value.{Value}
+use Rattle.space_model.specs.declared.value.Value.TheVariants.{Nil, Small, Name}
+use Rattle.space_model.specs.Graph.{Item}
+use Rattle.space_model.specs.Reached.{names_at}
+use Rattle.space_model.specs.Refusals.{and_then}
+use Rattle.space_model.specs.Roots.{Root, root_value}
+use Rattle.space_model.specs.State.{State}
+
+-- the value of a word of the stack: nil for 0, a small integer for an odd word below 2 ^ 63, the name that it names, else none
+abbrev pub word_value : FinMap nat_cmp ℕ → ℕ → Option Value
+word_value place word =
+    if word == 0 then Some Nil
+    else if nat_lt word (2 ^ 63) && (word % 2 == 1) then Some (Small (word / 2))
+    else option_map Name (slice_get (names_at place word) 0)
+
+abbrev pub word_value_in : FinMap nat_cmp ℕ → Option ℕ → Result Value Refusal
+word_value_in place None = Err NoWord
+word_value_in place (Some word) = ok_or (word_value place word) NotObject
+
+-- the value of an operand: what the root holds, or the value of the stack word at that place from the top
+abbrev pub operand_value_in : List Root → List ℕ → FinMap nat_cmp ℕ → Operand → Result Value Refusal
+operand_value_in roots stack place (RootOperand name) = ok_or (root_value roots name) NoRoot
+operand_value_in roots stack place (Word k) = word_value_in place (slice_get (reverse stack) k)
+
+abbrev pub operand_value : State → Operand → Result Value Refusal
+operand_value s operand = operand_value_in s.roots s.stack s.heap.place operand
+
+-- the value that a command is given
+abbrev pub input_value_in : List Root → List ℕ → FinMap nat_cmp ℕ → Input → Result Value Refusal
+input_value_in roots stack place (From operand) = operand_value_in roots stack place operand
+input_value_in roots stack place NilInput = Ok Nil
+input_value_in roots stack place (SmallInput number) = Ok (Small number)
+
+abbrev pub input_value : State → Input → Result Value Refusal
+input_value s input = input_value_in s.roots s.stack s.heap.place input
+
+-- the name that a value is, where an object is needed
+abbrev pub object_in : Value → Result ℕ Refusal
+object_in Nil = Err NotObject
+object_in (Small number) = Err NotObject
+object_in (Name name) = Ok name
+
+-- the value of a field of an item
+abbrev pub field_in : Item → ℕ → Result Value Refusal
+field_in item index = ok_or (slice_get item.values index) NoField
