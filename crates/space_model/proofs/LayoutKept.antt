@@ -39,6 +39,24 @@ within pages page pool e = grind (arith, common_steps)
 past : (pages : List (Option ℕ)) → pool_at pages (length pages) ≡ None
 past pages = grind (arith, common_steps)
 
+-- the first slot of a page without a pool
+on_page : (s : State) (pool page address : ℕ) → 0 < page_slots pool → page ≤ length s.heap.pages → page < s.heap.limit → pool_at s.heap.pages page ≡ None → address ≡ slot_address page pool 0 → AreSlots s.graph s.heap.pages s.heap.place → IsFreshSlot s pool address
+on_page s pool page address has below limited none is placed =
+    let on : page_of address ≡ page = ap page_of is ∙ page_of-slot_address page pool 0 has in
+    record {
+      slot = 0;
+      below = omega arith;
+      limited = omega arith;
+      fits = inr (ap (pool_at s.heap.pages) on ∙ none);
+      on_page = has;
+      is = is ∙ ap (λ page. slot_address page pool 0) (sym on);
+      no_place = λ name e.
+          let slot = placed.at name address e in
+          let where_it_is : page_of address ≡ slot.page = ap page_of slot.is ∙ page_of-slot_address slot.page _ slot.slot slot.on_page in
+          let taken : pool_at s.heap.pages page ≡ Some (pool_of s.graph name) = ap (pool_at s.heap.pages) (sym on ∙ where_it_is) ∙ slot.has_pool in
+          let f : None ≡ Some (pool_of s.graph name) = sym none ∙ taken in cc;
+    }
+
 -- the place of a birth is fresh
 pub fresh_slot : (s : State) (fields address : ℕ) → SoundLayout s.graph s.heap.place s.heap.pages s.heap.limit → IsBirthPlace s (pool_for fields) address → IsFreshSlot s (pool_for fields) address
 fresh_slot s fields address h = ⊎_elim
@@ -56,22 +74,10 @@ fresh_slot s fields address h = ⊎_elim
       is = at.is ∙ ap (λ page. slot_address page (pool_for fields) at.slot) (sym on);
       no_place = new.free.no_place;
     })
-    (λ (full, next).
-    let on : page_of address ≡ length s.heap.pages = ap page_of next.is ∙ page_of-slot_address (length s.heap.pages) (pool_for fields) 0 (has_slot fields) in
-    let below = next.below in
-    record {
-      slot = 0;
-      below = omega arith;
-      limited = omega arith;
-      fits = inr (ap (pool_at s.heap.pages) on ∙ past s.heap.pages);
-      on_page = has_slot fields;
-      is = next.is ∙ ap (λ page. slot_address page (pool_for fields) 0) (sym on);
-      no_place = λ name e.
-          let slot = h.placed.at name address e in
-          let where_it_is : page_of address ≡ slot.page = ap page_of slot.is ∙ page_of-slot_address slot.page _ slot.slot slot.on_page in
-          let inside = within s.heap.pages slot.page _ slot.has_pool in
-          omega arith;
-    })
+    (λ fresh. ⊎_elim
+    (λ (spare, least). let limited = h.limited in let below = spare.0 in on_page s (pool_for fields) fresh.page address (has_slot fields) (omega arith) (omega arith) spare.1 fresh.is h.placed)
+    (λ (none, next, below). on_page s (pool_for fields) fresh.page address (has_slot fields) (omega arith) below (ap (pool_at s.heap.pages) next ∙ past s.heap.pages) fresh.is h.placed)
+    fresh.fresh)
 
 module _ (s : State) (root : List ℕ) (fields : ℕ) (guard : Guard) (style : Style) (address : ℕ) (h : SoundLayout s.graph s.heap.place s.heap.pages s.heap.limit) (f : IsFreshSlot s (pool_for fields) address) where
   abbrev graph' : List Item

@@ -10,7 +10,8 @@ pub mod PageLaws
 pub mod SlotLaws
 pub mod LayoutKept
 pub mod NamesKept
-pub mod ValuesPresent
+pub mod ValuesHold
+pub mod ValuesKept
 pub mod SoundKept
 pub mod Cutting
 pub mod Apart

@@ -7,7 +7,7 @@ use Rattle.std.proofs.lemmas.List.Folds.{list_any-append}
 use Rattle.space_model.specs.State.{State}
 use Rattle.space_model.specs.Reached.{reached_names}
 use Rattle.space_model.specs.Sound.{SoundMoments}
-use Rattle.space_model.specs.Moments.{parents_of_young, with_names, noted}
+use Rattle.space_model.specs.Moments.{parents_of_young, with_names, noted, SameMoments}
 use Rattle.space_model.proofs.Growing.{IsDistinct-cons}
 use Rattle.space_model.proofs.Members.{member_filter}
 use Rattle.space_model.proofs.ReachedLaws.{member-reached_names, reached_names-once}
@@ -57,3 +57,14 @@ SoundMoments-noted s once = record {
   once = IsDistinct-with_names (reached_names s) s.history.seen (reached_names-once s) once;
   mixed = λ n m. member-with_names (parents_of_young s) s.history.mixed n ∙ or_left _ _ m;
 }
+
+SoundMoments-same : (s t : State) → SameMoments s t → SoundMoments s → SoundMoments t
+SoundMoments-same s t e h = record {
+  seen = λ n r. rw e.seen (h.seen n (rw (e.graph, e.roots, e.stack, e.place) at r));
+  once = rw e.seen h.once;
+  mixed = λ n m. rw e.mixed (h.mixed n (rw (e.graph, e.place, e.outlived) at m));
+}
+
+-- a change that touches nothing on which the moments rest leaves them as they were
+pub noted-stays : (s t : State) → SameMoments s t → SoundMoments s → noted t ≡ t
+noted-stays s t e h = noted-same t (SoundMoments-same s t e h)

@@ -1,5 +1,5 @@
 -- The opening is sound, and lawful commands keep states so.
-use Rattle.std.proofs.Common.{◌≡◌, ◌⊎◌, ℕ, ◌+◌, true, false, List, [], ◌∷◌, ◌++◌, length, nat_eq, refl, sym, ap, ◌∙◌, subst, arith, ⊎_elim, Option, None, Some, Result, Ok, Err}
+use Rattle.std.proofs.Common.{◌≡◌, ◌⊎◌, ℕ, ◌+◌, ◌≤◌, true, false, List, [], ◌∷◌, ◌++◌, length, nat_eq, refl, sym, ap, ◌∙◌, subst, arith, ⊎_elim, Option, None, Some, Result, Ok, Err}
 use Rattle.std.specs.Prelude.{is_some}
 use Rattle.std.specs.List.{IsDistinct}
 use Rattle.std.specs.Set.{is_member}
@@ -17,6 +17,7 @@ use Rattle.space_model.specs.declared.reply.Refusal.{Refusal}
 use Rattle.space_model.specs.declared.reply.Reply.{Reply}
 use Rattle.space_model.specs.declared.reply.Reply.TheVariants.{Made, Full, NoMemory, Done, Read}
 use Rattle.space_model.specs.declared.value.Value.{Value}
+use Rattle.space_model.specs.declared.value.Value.TheVariants.{Name}
 use Rattle.space_model.specs.Answers.{WritesRoot, SetReply, LoadReply, StoreReply, field_value, written_field}
 use Rattle.space_model.specs.Graph.{IsChild}
 use Rattle.space_model.specs.Lawful.{Effects, Lawful, LawfulAll}
@@ -28,7 +29,7 @@ use Rattle.space_model.specs.Outputs.{Output}
 use Rattle.space_model.specs.Pieces.{born, rooted, stored, Stored}
 use Rattle.space_model.specs.Reach.{IsStart, Reach}
 use Rattle.space_model.specs.Roots.{root_names}
-use Rattle.space_model.specs.Sound.{Sound, SoundNames, SoundLayout, SoundMoments}
+use Rattle.space_model.specs.Sound.{Sound, SoundNames, SoundLayout, AreSoundItems, AreSoundRoots, IsSmall, IsSmallInput, IsGivenSmall, AreGivenSmall}
 use Rattle.space_model.specs.State.{State, opening}
 use Rattle.space_model.proofs.LayoutKept.{fresh_slot, SoundLayout-born}
 use Rattle.space_model.proofs.MapLaws.{some_get}
@@ -37,7 +38,8 @@ use Rattle.space_model.proofs.NotedLaws.{SoundMoments-noted}
 use Rattle.space_model.proofs.Members.{member_filter}
 use Rattle.space_model.proofs.ReachedLaws.{member-keys}
 use Rattle.space_model.proofs.Reaching.{IsReached-least}
-use Rattle.space_model.proofs.ValuesPresent.{IsPresentValue, input_present, read_present, write_present}
+use Rattle.space_model.proofs.ValuesHold.{input_holds, read_holds, write_holds}
+use Rattle.space_model.proofs.ValuesKept.{IsPresentValue, name_present, present_kept, small_kept, AreSoundItems-push, AreSoundItems-stored, AreSoundRoots-with_root}
 
 abbrev none_yet : FinMap nat_cmp ℕ
 none_yet = empty
@@ -75,6 +77,8 @@ Sound-opening limit = record {
     };
     limited = omega arith;
   };
+  items = tt;
+  roots = tt;
   names = record {
     born_present = λ n some le. absurd (omega arith);
     children_present = λ m n p c. absurd (nothing_present m p);
@@ -88,65 +92,82 @@ Sound-opening limit = record {
 }
 
 -- a state is sound after a piece, where its layout and its names are
-after_piece : (u t : State) → t ≡ noted u → SoundLayout u.graph u.heap.place u.heap.pages u.heap.limit → SoundNames u.graph u.roots u.heap.place → IsDistinct nat_eq u.history.seen → Sound t
-after_piece u t e layout names once = subst Sound (sym e) (record { layout = layout; names = names; moments = SoundMoments-noted u once })
+after_piece : (u t : State) → t ≡ noted u → SoundLayout u.graph u.heap.place u.heap.pages u.heap.limit → SoundNames u.graph u.roots u.heap.place → AreSoundItems u.graph → AreSoundRoots u.roots → IsDistinct nat_eq u.history.seen → Sound t
+after_piece u t e layout names items roots once = subst Sound (sym e) (record { layout = layout; names = names; items = items; roots = roots; moments = SoundMoments-noted u once })
 
-pub Sound-born : (s t : State) (root : List ℕ) (fields : ℕ) (guard : Guard) (style : Style) (address : ℕ) → IsBirthPlace s (pool_for fields) address → t ≡ noted (born s root fields guard style address) → Sound s → Sound t
-Sound-born s t root fields guard style address place e h =
+pub Sound-born : (s t : State) (root : List ℕ) (fields : ℕ) (guard : Guard) (style : Style) (address : ℕ) → fields ≤ 78 → IsBirthPlace s (pool_for fields) address → t ≡ noted (born s root fields guard style address) → Sound s → Sound t
+Sound-born s t root fields guard style address few place e h =
     after_piece (born s root fields guard style address) t e
     (SoundLayout-born s root fields guard style address h.layout (fresh_slot s fields address h.layout place))
     (SoundNames-born s root fields guard style address h.layout.placed h.names)
+    (AreSoundItems-push s.graph guard style fields few h.items)
+    (AreSoundRoots-with_root s.roots root (Name (length s.graph + 1)) tt h.roots)
     h.moments.once
 
-pub Sound-rooted : (s t : State) (root : List ℕ) (value : Value) → IsPresentValue s.heap.place value → t ≡ noted (rooted s root value) → Sound s → Sound t
-Sound-rooted s t root value present e h =
-    after_piece (rooted s root value) t e h.layout (SoundNames-rooted s.graph s.roots s.heap.place root value present h.names) h.moments.once
+pub Sound-rooted : (s t : State) (root : List ℕ) (value : Value) → IsPresentValue s.heap.place value → IsSmall value → t ≡ noted (rooted s root value) → Sound s → Sound t
+Sound-rooted s t root value present small e h =
+    after_piece (rooted s root value) t e h.layout
+    (SoundNames-rooted s.graph s.roots s.heap.place root value present h.names)
+    h.items
+    (AreSoundRoots-with_root s.roots root value small h.roots)
+    h.moments.once
 
-pub Sound-stored : (s t : State) (name index : ℕ) (value : Value) → is_some (get s.heap.place name) ≡ true → IsPresentValue s.heap.place value → t ≡ noted (stored s name index value) → Sound s → Sound t
-Sound-stored s t name index value there present e h =
+pub Sound-stored : (s t : State) (name index : ℕ) (value : Value) → is_some (get s.heap.place name) ≡ true → IsPresentValue s.heap.place value → IsSmall value → t ≡ noted (stored s name index value) → Sound s → Sound t
+Sound-stored s t name index value there present small e h =
     let at = some_get (get s.heap.place name) there in
     let b = h.layout.placed.born name at.0 at.1 in
     after_piece (stored s name index value) t e
     (SoundLayout-stored s name index value h.layout.placed b.0 b.1 h.layout)
     (SoundNames-stored s name index value h.layout.placed b.0 b.1 present h.names)
+    (AreSoundItems-stored s.graph name index value small h.items)
+    h.roots
     h.moments.once
 
 new_sound : (s t : State) (root : List ℕ) (fields : ℕ) (guard : Guard) (style : Style) (reply : Reply) → NewReply s root fields guard style reply t → Sound s → Sound t
-new_sound s t root fields guard style (Made name address) e h = Sound-born s t root fields guard style address e.1 e.2 h
-new_sound s t root fields guard style Full e h = subst Sound (sym e.1) h
+new_sound s t root fields guard style (Made name address) e h = Sound-born s t root fields guard style address e.few e.place e.after h
+new_sound s t root fields guard style Full e h = subst Sound (sym e.unchanged) h
 new_sound s t root fields guard style NoMemory e h = subst Sound (sym e) h
 new_sound s t root fields guard style _ e h = absurd e
 
-root_sound : (s t : State) (root : List ℕ) (value : Value) (answer reply : Reply) → IsPresentValue s.heap.place value → WritesRoot s root value answer reply t → Sound s → Sound t
-root_sound s t root value answer reply present w h = ⊎_elim
-    (λ (_, e). Sound-rooted s t root value present e h)
+root_sound : (s t : State) (root : List ℕ) (value : Value) (answer reply : Reply) → IsPresentValue s.heap.place value → IsSmall value → WritesRoot s root value answer reply t → Sound s → Sound t
+root_sound s t root value answer reply present small w h = ⊎_elim
+    (λ (_, e). Sound-rooted s t root value present small e h)
     (λ (_, _, e). subst Sound (sym e) h)
     w
 
-set_sound : (s t : State) (root : List ℕ) (input : Input) (found : Result Value Refusal) (reply : Reply) → input_value s input ≡ found → SetReply s root found reply t → Sound s → Sound t
-set_sound s t root input (Ok value) reply f e h = root_sound s t root value Done reply (input_present s h.names input value f) e h
-set_sound s t root input (Err why) reply f e h = subst Sound (sym e.same) h
+set_sound : (s t : State) (root : List ℕ) (input : Input) (found : Result Value Refusal) (reply : Reply) → IsSmallInput input → input_value s input ≡ found → SetReply s root found reply t → Sound s → Sound t
+set_sound s t root input (Ok value) reply i f e h =
+    root_sound s t root value Done reply
+    (input_holds s (IsPresentValue s.heap.place) (present_kept s h) input value i f)
+    (input_holds s IsSmall (small_kept s h) input value i f)
+    e h
+set_sound s t root input (Err why) reply i f e h = subst Sound (sym e.unchanged) h
 
 load_sound : (s t : State) (root : List ℕ) (object : Operand) (index : ℕ) (found : Result Value Refusal) (reply : Reply) → field_value s.graph (operand_value s object) index ≡ found → LoadReply s root found reply t → Sound s → Sound t
-load_sound s t root object index (Ok value) reply f e h = root_sound s t root value (Read value) reply (read_present s h.names object index value f) e h
-load_sound s t root object index (Err why) reply f e h = subst Sound (sym e.same) h
+load_sound s t root object index (Ok value) reply f e h =
+    root_sound s t root value (Read value) reply
+    (read_holds s (IsPresentValue s.heap.place) (present_kept s h) object index value f)
+    (read_holds s IsSmall (small_kept s h) object index value f)
+    e h
+load_sound s t root object index (Err why) reply f e h = subst Sound (sym e.unchanged) h
 
-store_sound : (s t : State) (object : Operand) (index : ℕ) (input : Input) (found : Result (ℕ × Value) Refusal) (reply : Reply) → written_field s.graph (operand_value s object) index (input_value s input) ≡ found → StoreReply s index found reply t → Sound s → Sound t
-store_sound s t object index input (Ok written) reply f e h =
-    let p = write_present s h.names object index input written f in
-    Sound-stored s t written.0 index written.1 p.0 p.1 e.1 h
-store_sound s t object index input (Err why) reply f e h = subst Sound (sym e.same) h
+store_sound : (s t : State) (object : Operand) (index : ℕ) (input : Input) (found : Result (ℕ × Value) Refusal) (reply : Reply) → IsSmallInput input → written_field s.graph (operand_value s object) index (input_value s input) ≡ found → StoreReply s index found reply t → Sound s → Sound t
+store_sound s t object index input (Ok written) reply i f e h =
+    let p = write_holds s (IsPresentValue s.heap.place) (present_kept s h) object index input written i f in
+    let q = write_holds s IsSmall (small_kept s h) object index input written i f in
+    Sound-stored s t written.0 index written.1 (name_present s.heap.place written.0 p.0) p.1 q.1 e.1 h
+store_sound s t object index input (Err why) reply i f e h = subst Sound (sym e.unchanged) h
 
-effects_sound : (s t : State) (command : Command) (events : List Event) (reply : Reply) → Effects s command events reply t → Sound s → Sound t
-effects_sound s t (New root fields guard style) events reply e h = new_sound s t root fields guard style reply e.1 h
-effects_sound s t (Set root value) events reply e h = set_sound s t root value (input_value s value) reply refl e.1 h
-effects_sound s t (Store object index value) events reply e h = store_sound s t object index value (written_field s.graph (operand_value s object) index (input_value s value)) reply refl e.1 h
-effects_sound s t (Load root object index) events reply e h = load_sound s t root object index (field_value s.graph (operand_value s object) index) reply refl e.1 h
-effects_sound s t (Same left right) events reply e h = subst Sound (sym e.1.1) h
+effects_sound : (s t : State) (command : Command) (events : List Event) (reply : Reply) → IsGivenSmall command → Effects s command events reply t → Sound s → Sound t
+effects_sound s t (New root fields guard style) events reply i e h = new_sound s t root fields guard style reply e.1 h
+effects_sound s t (Set root value) events reply i e h = set_sound s t root value (input_value s value) reply i refl e.1 h
+effects_sound s t (Store object index value) events reply i e h = store_sound s t object index value (written_field s.graph (operand_value s object) index (input_value s value)) reply i refl e.1 h
+effects_sound s t (Load root object index) events reply i e h = load_sound s t root object index (field_value s.graph (operand_value s object) index) reply refl e.1 h
+effects_sound s t (Same left right) events reply i e h = subst Sound (sym e.1.1) h
 
-pub lawful_sound : (s t : State) (command : Command) (outputs : List Output) → Lawful s command outputs t → Sound s → Sound t
-lawful_sound s t command outputs l h = effects_sound s t command l.events l.reply l.effects h
+pub lawful_sound : (s t : State) (command : Command) (outputs : List Output) → IsGivenSmall command → Lawful s command outputs t → Sound s → Sound t
+lawful_sound s t command outputs i l h = effects_sound s t command l.events l.reply i l.effects h
 
-pub lawful_all_sound : (s t : State) (commands : List Command) (outputs : List Output) → LawfulAll s commands outputs t → Sound s → Sound t
-lawful_all_sound s t [] outputs (_, e) h = subst Sound (sym e) h
-lawful_all_sound s t (command ∷ commands) outputs (now, later, mid, e, step, rest) h = lawful_all_sound mid t commands later rest (lawful_sound s mid command now step h)
+pub lawful_all_sound : (s t : State) (commands : List Command) (outputs : List Output) → AreGivenSmall commands → LawfulAll s commands outputs t → Sound s → Sound t
+lawful_all_sound s t [] outputs i (_, e) h = subst Sound (sym e) h
+lawful_all_sound s t (command ∷ commands) outputs i (now, later, mid, e, step, rest) h = lawful_all_sound mid t commands later i.1 rest (lawful_sound s mid command now i.0 step h)

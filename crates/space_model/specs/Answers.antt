@@ -17,7 +17,7 @@ use Rattle.space_model.specs.State.{State}
 -- the command was refused, and the state is as it was
 pub record Refuses (s : State) (why : Refusal) (reply : Reply) (t : State) : Type 0 where
   pub reply_is : reply ≡ Refused why
-  pub same : t ≡ s
+  pub unchanged : t ≡ s
 
 -- the root was written and this is the answer; or it is a new one, memory was lacking for it, and nothing was changed
 abbrev pub WritesRoot : State → List ℕ → Value → Reply → Reply → State → Type 0

@@ -12,7 +12,7 @@ use Rattle.space_model.specs.declared.command.Operand.TheVariants.{Root, Word}
 use Rattle.space_model.specs.declared.object.Guard.TheVariants.{Protected}
 use Rattle.space_model.specs.declared.object.Style.TheVariants.{Movable}
 use Rattle.space_model.specs.Idents.{IsIdent}
-use Rattle.space_model.specs.Lines.{lines_of}
+use Rattle.space_model.specs.Lines.{lines_of, MOST_BYTES}
 
 -- the words of a line, cut at each space
 abbrev pub words_of : List ℕ → List (List ℕ)
@@ -63,7 +63,7 @@ IsReading line (Some command) = IsCommand (words_of line) command
 abbrev pub AreCommands : List (List ℕ) → List Command → Type 0
 AreCommands [] commands = commands ≡ []
 AreCommands (line ∷ lines) commands =
-    (found : Option Command) × (rest : List Command) × (length line ≤ 4096) × IsReading line found × (commands ≡ option_to_list found ++ rest) × AreCommands lines rest
+    (found : Option Command) × (rest : List Command) × (length line ≤ MOST_BYTES) × IsReading line found × (commands ≡ option_to_list found ++ rest) × AreCommands lines rest
 
 -- the commands of the bytes of an input
 abbrev pub Commands : List ℕ → List Command → Type 0

@@ -19,7 +19,7 @@ pub record Item : Type 0 where
 abbrev pub no_item : Item
 no_item = record { guard = Protected; style = Movable; values = [] }
 
--- the item of a name
+-- the item of a name, which is 1 or more
 abbrev pub item_of : List Item → ℕ → Item
 item_of graph name = slice_index_or graph (name - 1) no_item
 

@@ -5,13 +5,13 @@ use Rattle.space_model.specs.declared.command.Command.TheVariants.{New, Set, Sto
 use Rattle.space_model.specs.declared.event.Event.{Event}
 use Rattle.space_model.specs.declared.reply.Reply.{Reply}
 use Rattle.space_model.specs.Answers.{Sets, Stores, Loads, Compares}
-use Rattle.space_model.specs.New.{NewReply}
+use Rattle.space_model.specs.New.{News}
 use Rattle.space_model.specs.Outputs.{Output, Told, Replied}
 use Rattle.space_model.specs.State.{State}
 
 -- the events and the reply of a command, and the state after it
 abbrev pub Effects : State → Command → List Event → Reply → State → Type 0
-Effects s (New root fields guard style) events reply t = (events ≡ []) × NewReply s root fields guard style reply t
+Effects s (New root fields guard style) events reply t = News s root fields guard style events reply t
 Effects s (Set root value) events reply t = (events ≡ []) × Sets s root value reply t
 Effects s (Store object index value) events reply t = (events ≡ []) × Stores s object index value reply t
 Effects s (Load root object index) events reply t = (events ≡ []) × Loads s root object index reply t

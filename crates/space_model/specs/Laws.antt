@@ -5,11 +5,11 @@ use Rattle.std.specs.Set.{is_member}
 use Rattle.space_model.specs.declared.command.Command.{Command}
 use Rattle.space_model.specs.Graph.{IsChild}
 use Rattle.space_model.specs.Lawful.{Lawful, LawfulAll}
-use Rattle.space_model.specs.Moments.{noted}
+use Rattle.space_model.specs.Moments.{noted, SameMoments}
 use Rattle.space_model.specs.Outputs.{Output}
 use Rattle.space_model.specs.Reach.{Reach, IsStart}
 use Rattle.space_model.specs.Reached.{reached_names}
-use Rattle.space_model.specs.Sound.{Sound}
+use Rattle.space_model.specs.Sound.{Sound, SoundMoments, IsGivenSmall, AreGivenSmall}
 use Rattle.space_model.specs.State.{State, opening}
 use Rattle.space_model.specs.Texts.{text_of, AreSpelled}
 
@@ -36,15 +36,19 @@ ReachIsListedOnce = (s : State) → IsDistinct nat_eq (reached_names s)
 abbrev pub NotingIsDone : Type 0
 NotingIsDone = (s : State) → Sound s → noted s ≡ s
 
+-- nor does it after a change that touches nothing on which it rests
+abbrev pub NotingStays : Type 0
+NotingStays = (s t : State) → SameMoments s t → SoundMoments s → noted t ≡ t
+
 abbrev pub OpeningIsSound : Type 0
 OpeningIsSound = (limit : ℕ) → Sound (opening limit)
 
--- a lawful command leads from a sound state to a sound state
+-- a lawful command, given small integers below 2 ^ 62, leads from a sound state to a sound state
 abbrev pub LawfulIsSound : Type 0
-LawfulIsSound = (s t : State) (command : Command) (outputs : List Output) → Lawful s command outputs t → Sound s → Sound t
+LawfulIsSound = (s t : State) (command : Command) (outputs : List Output) → IsGivenSmall command → Lawful s command outputs t → Sound s → Sound t
 
 abbrev pub LawfulAllIsSound : Type 0
-LawfulAllIsSound = (s t : State) (commands : List Command) (outputs : List Output) → LawfulAll s commands outputs t → Sound s → Sound t
+LawfulAllIsSound = (s t : State) (commands : List Command) (outputs : List Output) → AreGivenSmall commands → LawfulAll s commands outputs t → Sound s → Sound t
 
 -- different outputs have different texts
 abbrev pub TextsDiffer : Type 0

@@ -21,6 +21,6 @@ pool_for fields = if nat_le fields 3 then 0 else if nat_le fields 8 then 1 else 
 unfoldable pub slot_address : ℕ → ℕ → ℕ → ℕ
 slot_address page pool slot = 65536 * (page + 1) + slot_bytes pool * slot
 
--- the page that an address is on
+-- the page that an address is on, which is 65,536 or more
 unfoldable pub page_of : ℕ → ℕ
 page_of address = address / 65536 - 1

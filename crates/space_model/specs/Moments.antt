@@ -1,5 +1,5 @@
 -- What is noted after each piece of work: the names reached, and the names with a young child.
-use Rattle.std.specs.Prelude.{ℕ, ◌-◌, Bool, true, false, not, ◌&&◌, List, ◌++◌, nat_eq, nat_le, slice_index_or, is_some}
+use Rattle.std.specs.Prelude.{◌≡◌, ℕ, ◌-◌, Bool, true, false, not, ◌&&◌, List, ◌++◌, nat_eq, nat_le, slice_index_or, is_some}
 use Rattle.std.specs.List.{filter, list_any}
 use Rattle.std.specs.Ordering.{nat_cmp}
 use Rattle.std.specs.Set.{is_member}
@@ -46,3 +46,13 @@ noted s = record s {
     mixed = with_names (parents_of_young s) s.history.mixed;
   };
 }
+
+-- a change that touches nothing on which rests what is reached and who has a young child
+pub record SameMoments (s t : State) : Type 0 where
+  pub graph : t.graph ≡ s.graph
+  pub roots : t.roots ≡ s.roots
+  pub stack : t.stack ≡ s.stack
+  pub place : t.heap.place ≡ s.heap.place
+  pub outlived : t.collector.outlived ≡ s.collector.outlived
+  pub seen : t.history.seen ≡ s.history.seen
+  pub mixed : t.history.mixed ≡ s.history.mixed

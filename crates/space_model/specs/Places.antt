@@ -1,5 +1,5 @@
 -- Free addresses, and where a new object stands.
-use Rattle.std.specs.Prelude.{◌≡◌, ◌≢◌, ℕ, ◌<◌, ◌≤◌, false, length, nat_eq, Some}
+use Rattle.std.specs.Prelude.{◌≡◌, ◌≢◌, ◌⊎◌, ℕ, ◌<◌, ◌≤◌, false, length, nat_eq, None, Some}
 use Rattle.std.specs.Set.{is_member}
 use Rattle.std.specs.FinMap.{get}
 use Rattle.space_model.specs.Layout.{slot_address, page_slots, page_of}
@@ -31,7 +31,16 @@ pub record IsNewAt (s : State) (pool address : ℕ) : Type 0 where
 abbrev pub IsPoolFull : State → ℕ → Type 0
 IsPoolFull s pool = (address : ℕ) → IsFree s pool address → ⊥
 
--- the address is the first slot of the next page, which the limit allows
-pub record IsOnNextPage (s : State) (pool address : ℕ) : Type 0 where
-  pub below : length s.heap.pages < s.heap.limit
-  pub is : address ≡ slot_address (length s.heap.pages) pool 0
+-- the page is spare: it has no pool
+abbrev pub IsSpare : State → ℕ → Type 0
+IsSpare s page = (page < length s.heap.pages) × (pool_at s.heap.pages page ≡ None)
+
+-- no page is spare
+abbrev pub HasNoSpare : State → Type 0
+HasNoSpare s = (page : ℕ) → IsSpare s page → ⊥
+
+-- the page that gets a pool where none has a free slot: the lowest spare one, else the next one that the limit allows
+abbrev pub IsFreshPage : State → ℕ → Type 0
+IsFreshPage s page =
+    (IsSpare s page × ((other : ℕ) → IsSpare s other → page ≤ other))
+    ⊎ (HasNoSpare s × (page ≡ length s.heap.pages) × (page < s.heap.limit))

@@ -14,11 +14,11 @@ onto (Some name) names = name ∷ names
 
 -- one more name, if there is one: a start, or a child of a name that is there
 abbrev pub grown : List ℕ → (ℕ → List ℕ) → List ℕ → List ℕ
-grown starts kids names = onto (find (λ name. not (is_member nat_eq names name)) (starts ++ flat_map kids names)) names
+grown starts children_of names = onto (find (λ name. not (is_member nat_eq names name)) (starts ++ flat_map children_of names)) names
 
 abbrev pub grown_times : List ℕ → (ℕ → List ℕ) → ℕ → List ℕ → List ℕ
-grown_times starts kids zero names = names
-grown_times starts kids (suc times) names = grown_times starts kids times (grown starts kids names)
+grown_times starts children_of zero names = names
+grown_times starts children_of (suc times) names = grown_times starts children_of times (grown starts children_of names)
 
 abbrev pub is_at : ℕ → Option ℕ → Bool
 is_at address None = false

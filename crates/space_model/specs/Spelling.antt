@@ -29,7 +29,7 @@ abbrev pub text_of_pieces : List Piece → List ℕ
 text_of_pieces [] = []
 text_of_pieces (piece ∷ pieces) = piece_text piece ++ text_of_pieces pieces
 
--- numbers are below 2 ^ 64, and idents are idents
+-- numbers in base 10 are below 2 ^ 64, and idents are idents
 abbrev pub IsSpelled : List Piece → Type 0
 IsSpelled [] = Unit {0}
 IsSpelled (Number number ∷ pieces) = (number < 2 ^ 64) × IsSpelled pieces

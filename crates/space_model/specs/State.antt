@@ -1,7 +1,7 @@
 -- The state of a space: plain numbers, lists and finite maps, with nothing of the collector's own data.
-use Rattle.std.specs.Prelude.{ℕ, Bool, List, [], Option, is_some}
+use Rattle.std.specs.Prelude.{ℕ, List, [], Option}
 use Rattle.std.specs.Ordering.{nat_cmp}
-use Rattle.std.specs.FinMap.{FinMap, get, empty}
+use Rattle.std.specs.FinMap.{FinMap, empty}
 use Rattle.space_model.specs.declared.phase.Phase.{Phase}
 use Rattle.space_model.specs.declared.phase.Phase.TheVariants.{Idle}
 use Rattle.space_model.specs.Graph.{Item}
@@ -24,7 +24,7 @@ pub record Heap : Type 0 where
 
 pub record Collector : Type 0 where
   pub phase : Phase
-  -- in Fixing, each address below it is visited
+  -- in Fixing, no field of an object below this address is in `stale`; outside Fixing it is 0
   pub cursor : ℕ
   -- for each item of the graph, the verdicts that it outlived
   pub outlived : List ℕ
@@ -48,11 +48,11 @@ pub record Tables : Type 0 where
   pub finals : List (ℕ × List ℕ)
   pub queue : List (ℕ × List ℕ)
 
--- what was the case at some moment since the last marking began
+-- what was noted since the last marking began
 pub record History : Type 0 where
-  -- the names that were reached
+  -- the names that were reached at some moment
   pub seen : List ℕ
-  -- the names that had a child that wasn't old
+  -- the names that had a child that wasn't old at some moment
   pub mixed : List ℕ
   -- the names that roots held or stack words named when the marking began
   pub began : List ℕ
@@ -90,7 +90,3 @@ opening limit = record {
   history = record { seen = []; mixed = []; began = []; scanned = 0 };
   counters = record { minor_verdicts = 0; other_verdicts = 0; freed = 0; compactions = 0; moves = 0 };
 }
-
--- a name that was born and isn't gone
-abbrev pub is_present : State → ℕ → Bool
-is_present s name = is_some (get s.heap.place name)

@@ -59,7 +59,7 @@ line_of_pieces pieces = text_of_pieces pieces ++ 10 ∷ []
 abbrev pub text_of : List Output → List ℕ
 text_of outputs = flat_map (λ output. line_of_pieces (output_pieces output)) outputs
 
--- the numbers of each output are below 2 ^ 64, so it can be written
+-- the numbers in base 10 of each output are below 2 ^ 64
 abbrev pub AreSpelled : List Output → Type 0
 AreSpelled [] = Unit {0}
 AreSpelled (output ∷ outputs) = IsSpelled (output_pieces output) × AreSpelled outputs

@@ -1,5 +1,5 @@
 // Laws of the definitions: functions that do nothing, and promise them.
-ghost use Rattle.space_model.specs.Laws.{ReachHasStarts, ReachIsClosed, ReachIsLeast, ReachIsListed, ReachIsListedOnce, NotingIsDone, OpeningIsSound, LawfulIsSound, LawfulAllIsSound, TextsDiffer};
+ghost use Rattle.space_model.specs.Laws.{ReachHasStarts, ReachIsClosed, ReachIsLeast, ReachIsListed, ReachIsListedOnce, NotingIsDone, NotingStays, OpeningIsSound, LawfulIsSound, LawfulAllIsSound, TextsDiffer};
 
 /// What is reached is the least set that has the starts, and with each name its children.
 pub fn reach_is_least()
@@ -13,6 +13,7 @@ pub fn reach_is_listed()
     ensures listed { ReachIsListed }
     ensures once { ReachIsListedOnce }
     ensures noted { NotingIsDone }
+    ensures stays { NotingStays }
 {}
 
 /// Every state that comes is sound.

@@ -19,9 +19,9 @@ pub enum Refusal {
 pub enum Reply {
     /// The object with this name was born at this address, a number of bytes.
     Made { name: u64, address: u64 },
-    /// No object can be made: there are as many pages as may be, and none has a free slot.
+    /// No object of this size can be made: there are as many pages as may be, and none has a free slot for it.
     Full,
-    /// Memory was lacking, and nothing was changed.
+    /// Memory was lacking.
     NoMemory,
     /// The command was done.
     Done,

@@ -1,5 +1,5 @@
 use Rattle.space_model.proofs.ReachedLaws.{member-reached_names, reached_names-once}
-use Rattle.space_model.proofs.NotedLaws.{noted-same}
+use Rattle.space_model.proofs.NotedLaws.{noted-same, noted-stays}
 use Rattle.space_model.proofs.laws.reach_is_listed.Goals as goal
 
 pub returns-clause-listed : goal.returns-clause-listed
@@ -10,3 +10,6 @@ returns-clause-once c = λ s. reached_names-once s
 
 pub returns-clause-noted : goal.returns-clause-noted
 returns-clause-noted c = λ s sound. noted-same s sound.moments
+
+pub returns-clause-stays : goal.returns-clause-stays
+returns-clause-stays c = noted-stays

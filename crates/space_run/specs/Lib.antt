@@ -1,0 +1,5 @@
+pub mod Objects
+pub mod Views
+pub mod Inside
+pub mod Stands
+pub mod Steps

@@ -1,0 +1,10 @@
+//! The top call: what the program does, from its words and bytes to its bytes and status.
+#![tactic(auto)]
+
+mod engine;
+mod objects;
+mod operands;
+mod replay;
+mod roots;
+
+pub use replay::run;
