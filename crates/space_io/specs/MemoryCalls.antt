@@ -1,5 +1,5 @@
 -- When a call of a source or a sink in memory fails, how many bytes it moves, and what it leaves.
-use Rattle.std.specs.Prelude.{ℕ, ◌≡◌, ◌⊎◌, ◌-◌, ◌≤◌, ◌++◌, min, List, Contains, length, take, drop}
+use Rattle.std.specs.Prelude.{ℕ, ◌⊎◌, ◌-◌, ◌≤◌, ◌++◌, min, List, Contains, length, take, drop}
 use Rattle.space_io.specs.Causes.{raised}
 use Rattle.space_io.specs.Memory.{SourceView, SinkView}
 
