@@ -1,0 +1,5 @@
+pub mod WordLemmas
+pub mod NumberLemmas
+pub mod InputLemmas
+pub mod HexLemmas
+pub mod PieceLemmas
