@@ -3,3 +3,5 @@ pub mod NumberLemmas
 pub mod InputLemmas
 pub mod HexLemmas
 pub mod PieceLemmas
+pub mod SpellingLemmas
+pub mod ReadingLemmas

@@ -5,6 +5,7 @@
 mod commands;
 mod forms;
 mod inputs;
+mod laws;
 mod line;
 mod numbers;
 mod outputs;
@@ -12,5 +13,6 @@ mod reader;
 mod words;
 mod writer;
 
+pub use laws::{readings_are_one, spellings_are_read};
 pub use reader::{Malformed, read_command};
 pub use writer::{write_command, write_event, write_reply};
