@@ -1,0 +1,7 @@
+pub mod WordLemmas
+pub mod NumberLemmas
+pub mod InputLemmas
+pub mod HexLemmas
+pub mod PieceLemmas
+pub mod SpellingLemmas
+pub mod ReadingLemmas

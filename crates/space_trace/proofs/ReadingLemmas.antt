@@ -1,0 +1,116 @@
+-- A line is at most one command: a function finds the command of the words, where they are one.
+use Rattle.std.proofs.Common.{◌≡◌, ℕ, ◌==◌, if◌then◌else◌, Bool, false, true, List, [], ◌∷◌, codes, drop, Option, None, Some, IsTrue, refl, ap, sym, subst, ◌∙◌}
+use Rattle.std.proofs.lemmas.Bool.{ne_eqb}
+use Rattle.std.proofs.lemmas.Slice.Eq.{bytes_eq-Decides}
+use Rattle.std.specs.List.{slice_index}
+use Rattle.std.specs.Str.{bytes_eq}
+use Rattle.std.specs.Str.Parse.{digits_value}
+use Rattle.space_model.specs.declared.command.Command.{Command}
+use Rattle.space_model.specs.declared.command.Command.TheVariants.{New, Set, Store, Load, Same}
+use Rattle.space_model.specs.declared.command.Input.{Input}
+use Rattle.space_model.specs.declared.command.Input.TheVariants.{From, Nil, Small}
+use Rattle.space_model.specs.declared.command.Operand.{Operand}
+use Rattle.space_model.specs.declared.command.Operand.TheVariants.{Root, Word}
+use Rattle.space_model.specs.declared.object.Guard.TheVariants.{Protected}
+use Rattle.space_model.specs.declared.object.Style.TheVariants.{Movable}
+use Rattle.space_model.specs.Grammar.{IsOperand, IsInput, IsCommand, IsReading, AreCommands, Commands, words_of}
+use Rattle.space_model.specs.Idents.{IsIdent, is_first_byte}
+use Rattle.space_model.specs.Lines.{lines_of}
+use Rattle.space_model.specs.CommandTexts.{command_pieces, command_text, IsWritable}
+use Rattle.space_model.specs.Spelling.{IsSpelled}
+use Rattle.space_trace.proofs.SpellingLemmas.{spelling_is_read}
+
+-- Each function below finds what a word is, or what words are, and anything where they are nothing.
+
+abbrev operand_of : List ℕ → Operand
+operand_of word = Root word
+
+abbrev input_of : List ℕ → Input
+input_of word = if bytes_eq word (codes "nil") then Nil else if slice_index word 0 == 61 then Small (digits_value 10 (drop 1 word)) else From (operand_of word)
+
+abbrev new_of : List (List ℕ) → Option Command
+new_of (root ∷ fields ∷ rest) = Some (New root (digits_value 10 fields) Protected Movable)
+new_of _ = None
+
+abbrev set_of : List (List ℕ) → Option Command
+set_of (root ∷ value ∷ rest) = Some (Set root (input_of value))
+set_of _ = None
+
+abbrev store_of : List (List ℕ) → Option Command
+store_of (object ∷ index ∷ value ∷ rest) = Some (Store (operand_of object) (digits_value 10 index) (input_of value))
+store_of _ = None
+
+abbrev load_of : List (List ℕ) → Option Command
+load_of (root ∷ object ∷ index ∷ rest) = Some (Load root (operand_of object) (digits_value 10 index))
+load_of _ = None
+
+abbrev same_of : List (List ℕ) → Option Command
+same_of (left ∷ right ∷ rest) = Some (Same (operand_of left) (operand_of right))
+same_of _ = None
+
+abbrev form_of : List ℕ → List (List ℕ) → Option Command
+form_of name words =
+    if bytes_eq name (codes "new") then new_of words
+    else if bytes_eq name (codes "set") then set_of words
+    else if bytes_eq name (codes "store") then store_of words
+    else if bytes_eq name (codes "load") then load_of words
+    else if bytes_eq name (codes "same") then same_of words
+    else None
+
+abbrev command_of : List (List ℕ) → Option Command
+command_of [] = None
+command_of (name ∷ words) = form_of name words
+
+differ : false ≡ true → ⊥
+differ e = cc
+
+same_false : (b : Bool) → (b ≡ true → ⊥) → b ≡ false
+same_false true h = absurd (h refl)
+same_false false h = refl
+
+not_nil : (word : List ℕ) → IsIdent word → bytes_eq word (codes "nil") ≡ false
+not_nil word h = same_false (bytes_eq word (codes "nil")) (λ e. h.not_nil ((bytes_eq-Decides word (codes "nil")).0 e))
+
+not_small : (word : List ℕ) → IsIdent word → (slice_index word 0 == 61) ≡ false
+not_small word h = ne_eqb _ 61 (λ e. differ (subst (λ (x : ℕ). IsTrue (is_first_byte x)) e h.first))
+
+operand_is : (word : List ℕ) (operand : Operand) → IsOperand word operand → operand_of word ≡ operand
+operand_is word (Root name) h = ap Root h.0
+operand_is word (Word place) h = absurd h
+
+input_is : (word : List ℕ) (value : Input) → IsInput word value → input_of word ≡ value
+input_is word (From (Root name)) h = rw (h.0, not_nil name h.1, not_small name h.1) refl
+input_is word (From (Word place)) h = absurd h
+input_is word Nil h = rw h refl
+input_is word (Small number) h = rw h.1 (ap Small (sym h.2.value))
+
+-- the command that words are is the one that is found
+pub command_is : (words : List (List ℕ)) (command : Command) → IsCommand words command → command_of words ≡ Some command
+command_is words (New root fields guard style) h = rw (h.1, h.3.value, h.5, h.6) refl
+command_is words (Set root value) h = rw (h.1, input_is h.0 value h.3) refl
+command_is words (Store object index value) h = rw (h.3, operand_is h.0 object h.4, h.5.value, input_is h.2 value h.6) refl
+command_is words (Load root object index) h = rw (h.2, operand_is h.0 object h.4, h.5.value) refl
+command_is words (Same left right) h = rw (h.2, operand_is h.0 left h.3, operand_is h.1 right h.4) refl
+
+pub reading_is : (line : List ℕ) (found : Option Command) → IsReading line found → command_of (words_of line) ≡ found
+reading_is line None h = absurd h
+reading_is line (Some command) h = command_is (words_of line) command h
+
+pub readings_same : (line : List ℕ) (a b : Option Command) → IsReading line a → IsReading line b → a ≡ b
+readings_same line a b h k = sym (reading_is line a h) ∙ reading_is line b k
+
+lines_same : (lines : List (List ℕ)) (a b : List Command) → AreCommands lines a → AreCommands lines b → a ≡ b
+lines_same [] a b h k = h ∙ sym k
+lines_same (line ∷ lines) a b (found, rest, _, reading, whole, more) (found', rest', _, reading', whole', more') =
+    rw (whole, whole', readings_same line found found' reading reading', lines_same lines rest rest' more more') refl
+
+pub commands_same : (bytes : List ℕ) (a b : List Command) → Commands bytes a → Commands bytes b → a ≡ b
+commands_same bytes a b h k = lines_same (lines_of bytes) a b h k
+
+some_same : (a b : Command) → ◌≡◌ {A = Option Command} (Some a) (Some b) → a ≡ b
+some_same a b e = cc
+
+pub spellings_differ : (a b : Command) → IsWritable a → IsSpelled (command_pieces a) → IsWritable b → IsSpelled (command_pieces b) → command_text a ≡ command_text b → a ≡ b
+spellings_differ a b w s v t e =
+    let first : IsReading (command_text b) (Some a) = subst (λ (line : List ℕ). IsReading line (Some a)) e (spelling_is_read a w s) in
+    some_same a b (readings_same (command_text b) (Some a) (Some b) first (spelling_is_read b v t))

@@ -1,0 +1,88 @@
+// The forms of a line: one function a form, which reads the words after the first.
+ghost use Rattle.std.specs.Prelude.{◌≡◌, ◌∷◌, codes};
+ghost use Rattle.space_trace.specs.WordsLeft.{words_in, ReadsWords};
+
+use crate::inputs::{read_input, read_operand};
+use crate::numbers::read_number;
+use crate::words::{four_words, three_words, two_words};
+use space_model::{Command, Guard, Ident, Style};
+
+/// The most fields that a line may ask for.
+const MOST_FIELDS: u64 = 3;
+
+fn read_new(rest: Option<&[u8]>) -> Option<Command>
+    ensures { ReadsWords (codes "new" ∷ words_in rest.entry) result }
+{
+    let (root, fields, guard, style) = four_words(rest)?;
+    let root = Ident::read(root)?;
+    let fields = read_number(fields)?;
+    if fields > MOST_FIELDS || guard != b"P".as_slice() || style != b"M".as_slice() {
+        return None;
+    }
+    Some(Command::New {
+        root,
+        fields,
+        guard: Guard::Protected,
+        style: Style::Movable,
+    })
+}
+
+fn read_set(rest: Option<&[u8]>) -> Option<Command>
+    ensures { ReadsWords (codes "set" ∷ words_in rest.entry) result }
+{
+    let (root, value) = two_words(rest)?;
+    let root = Ident::read(root)?;
+    let value = read_input(value)?;
+    Some(Command::Set { root, value })
+}
+
+fn read_store(rest: Option<&[u8]>) -> Option<Command>
+    ensures { ReadsWords (codes "store" ∷ words_in rest.entry) result }
+{
+    let (object, index, value) = three_words(rest)?;
+    let object = read_operand(object)?;
+    let index = read_number(index)?;
+    let value = read_input(value)?;
+    Some(Command::Store {
+        object,
+        index,
+        value,
+    })
+}
+
+fn read_load(rest: Option<&[u8]>) -> Option<Command>
+    ensures { ReadsWords (codes "load" ∷ words_in rest.entry) result }
+{
+    let (root, object, index) = three_words(rest)?;
+    let root = Ident::read(root)?;
+    let object = read_operand(object)?;
+    let index = read_number(index)?;
+    Some(Command::Load {
+        root,
+        object,
+        index,
+    })
+}
+
+fn read_same(rest: Option<&[u8]>) -> Option<Command>
+    ensures { ReadsWords (codes "same" ∷ words_in rest.entry) result }
+{
+    let (left, right) = two_words(rest)?;
+    let left = read_operand(left)?;
+    let right = read_operand(right)?;
+    Some(Command::Same { left, right })
+}
+
+/// The command of a line whose first word this is.
+pub fn read_words(name: &[u8], rest: Option<&[u8]>) -> Option<Command>
+    ensures { ReadsWords (name.now ∷ words_in rest.entry) result }
+{
+    match name {
+        _ if name == b"new".as_slice() => read_new(rest),
+        _ if name == b"set".as_slice() => read_set(rest),
+        _ if name == b"store".as_slice() => read_store(rest),
+        _ if name == b"load".as_slice() => read_load(rest),
+        _ if name == b"same".as_slice() => read_same(rest),
+        _ => None,
+    }
+}

@@ -1,0 +1,49 @@
+// The operands and values of a line.
+ghost use Rattle.std.specs.Prelude.{◌≡◌, ℕ, MatchOption};
+ghost use Rattle.space_model.specs.declared.command.Input.{Input as TheInput};
+ghost use Rattle.space_model.specs.declared.command.Operand.{Operand as TheOperand};
+ghost use Rattle.space_model.specs.Grammar.{IsOperand, IsInput};
+
+use crate::numbers::read_number;
+use space_model::{Ident, Input, Operand};
+
+/// The operand that the word is.
+pub fn read_operand(word: &[u8]) -> Option<Operand>
+    ensures { MatchOption result ((operand : TheOperand) → IsOperand word.now operand → ⊥) (λ operand. IsOperand word.now operand) }
+{
+    match Ident::read(word) {
+        Some(name) => Some(Operand::Root(name)),
+        None => None,
+    }
+}
+
+// The small integer that the word is.
+fn read_small(word: &[u8]) -> Option<u64>
+    ensures { MatchOption result ((number : ℕ) → IsInput word.now (Input.Small number) → ⊥) (λ number. IsInput word.now (Input.Small number)) }
+{
+    let (first, digits) = word.split_first()?;
+    if *first != b'=' {
+        return None;
+    }
+    let number = read_number(digits)?;
+    if number >= 1 << 62 {
+        return None;
+    }
+    Some(number)
+}
+
+/// The value that the word is. `nil` is no ident, so the order of the tests is free.
+pub fn read_input(word: &[u8]) -> Option<Input>
+    ensures { MatchOption result ((value : TheInput) → IsInput word.now value → ⊥) (λ value. IsInput word.now value) }
+{
+    if word == b"nil".as_slice() {
+        return Some(Input::Nil);
+    }
+    if let Some(operand) = read_operand(word) {
+        return Some(Input::From(operand));
+    }
+    match read_small(word) {
+        Some(number) => Some(Input::Small(number)),
+        None => None,
+    }
+}

@@ -1,0 +1,18 @@
+//! The lines of a trace: commands are read and written, and events and replies are written.
+//! The trace language is this project's own.
+#![tactic(auto)]
+
+mod commands;
+mod forms;
+mod inputs;
+mod laws;
+mod line;
+mod numbers;
+mod outputs;
+mod reader;
+mod words;
+mod writer;
+
+pub use laws::{readings_are_one, spellings_are_read};
+pub use reader::{Malformed, read_command};
+pub use writer::{write_command, write_event, write_reply};

@@ -1,0 +1,57 @@
+// Writes the lines of a trace. Each goes to the sink as one piece.
+ghost use Rattle.std.specs.Prelude.{OnOk};
+ghost use Rattle.std.specs.Io.KnownBytes.{Appends};
+ghost use Rattle.space_io.specs.Causes.{HasCause};
+ghost use Rattle.space_io.specs.Sinks.{AppendsPrefix};
+ghost use Rattle.space_model.specs.CommandTexts.{command_pieces};
+ghost use Rattle.space_model.specs.Spelling.{IsSpelled};
+ghost use Rattle.space_model.specs.Texts.{event_pieces, reply_pieces, line_of_pieces};
+
+use crate::commands::put_command;
+use crate::line::Line;
+use crate::outputs::{put_event, put_reply};
+use space_io::{Sink, WriteFault, write_all};
+use space_model::{Command, Event, Reply};
+
+const LF: u8 = b'\n';
+
+/// Writes the line of the command. At an `Err` a prefix of it was written.
+///
+/// A command that no line spells is written too, and `read_command` finds its line malformed.
+pub fn write_command<K: Sink>(command: &Command, sink: &mut K) -> Result<(), WriteFault>
+    ensures bytes { OnOk result (Appends (K.written sink.old) (K.written sink.new) (line_of_pieces (command_pieces command.now))) }
+    ensures prefix { AppendsPrefix (K.written sink.old) (K.written sink.new) (line_of_pieces (command_pieces command.now)) }
+    ensures cause { HasCause (K.faults sink.old) (K.faults sink.new) result }
+    ensures spelled { IsSpelled (command_pieces command.now) }
+{
+    let mut line = Line::new();
+    put_command(&mut line, *command);
+    line.push(LF);
+    write_all(sink, line.as_slice())
+}
+
+/// Writes the line of the event. At an `Err` a prefix of it was written.
+pub fn write_event<K: Sink>(event: &Event, sink: &mut K) -> Result<(), WriteFault>
+    ensures bytes { OnOk result (Appends (K.written sink.old) (K.written sink.new) (line_of_pieces (event_pieces event.now))) }
+    ensures prefix { AppendsPrefix (K.written sink.old) (K.written sink.new) (line_of_pieces (event_pieces event.now)) }
+    ensures cause { HasCause (K.faults sink.old) (K.faults sink.new) result }
+    ensures spelled { IsSpelled (event_pieces event.now) }
+{
+    let mut line = Line::new();
+    put_event(&mut line, *event);
+    line.push(LF);
+    write_all(sink, line.as_slice())
+}
+
+/// Writes the line of the reply. At an `Err` a prefix of it was written.
+pub fn write_reply<K: Sink>(reply: &Reply, sink: &mut K) -> Result<(), WriteFault>
+    ensures bytes { OnOk result (Appends (K.written sink.old) (K.written sink.new) (line_of_pieces (reply_pieces reply.now))) }
+    ensures prefix { AppendsPrefix (K.written sink.old) (K.written sink.new) (line_of_pieces (reply_pieces reply.now)) }
+    ensures cause { HasCause (K.faults sink.old) (K.faults sink.new) result }
+    ensures spelled { IsSpelled (reply_pieces reply.now) }
+{
+    let mut line = Line::new();
+    put_reply(&mut line, *reply);
+    line.push(LF);
+    write_all(sink, line.as_slice())
+}
