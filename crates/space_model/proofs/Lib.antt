@@ -15,3 +15,4 @@ pub mod ValuesKept
 pub mod SoundKept
 pub mod Cutting
 pub mod Apart
+pub mod RunLemmas

@@ -63,3 +63,7 @@ text_of outputs = flat_map (λ output. line_of_pieces (output_pieces output)) ou
 abbrev pub AreSpelled : List Output → Type 0
 AreSpelled [] = Unit {0}
 AreSpelled (output ∷ outputs) = IsSpelled (output_pieces output) × AreSpelled outputs
+
+-- the last line where the line with this number is malformed or too long
+abbrev pub malformed_pieces : ℕ → List Piece
+malformed_pieces number = Say (codes "line ") ∷ Number number ∷ Say (codes ": malformed") ∷ []

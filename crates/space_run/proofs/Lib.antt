@@ -1,0 +1,9 @@
+mod RootLemmas
+mod ObjectLemmas
+mod Addresses
+mod Placing
+mod Answering
+mod Stepping
+mod WordsLemmas
+mod Replaying
+mod Commands

@@ -3,3 +3,5 @@ pub mod Views
 pub mod Inside
 pub mod Stands
 pub mod Steps
+pub mod Replays
+pub mod Progress

@@ -97,6 +97,7 @@ impl Space {
         requires room { HasRoom self.old new_page }
         ensures ok { OnOk result (self.new ≡ added self.old new_page root.now fields guard style) }
         ensures number { IfOk result (λ n. n ≡ length self.old.items) }
+        ensures had_room { HasRoom self.old new_page }
         ensures err { OnErr result (self.new ≡ self.old) }
     {
         let object = make_object(self.alloc, fields, guard, style)?;

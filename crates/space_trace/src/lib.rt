@@ -15,4 +15,4 @@ mod writer;
 
 pub use laws::{readings_are_one, spellings_are_read};
 pub use reader::{Malformed, read_command};
-pub use writer::{write_command, write_event, write_reply};
+pub use writer::{write_command, write_event, write_malformed, write_reply};

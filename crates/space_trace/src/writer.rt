@@ -5,10 +5,10 @@ ghost use Rattle.space_io.specs.Causes.{HasCause};
 ghost use Rattle.space_io.specs.Sinks.{AppendsPrefix};
 ghost use Rattle.space_model.specs.CommandTexts.{command_pieces};
 ghost use Rattle.space_model.specs.Spelling.{IsSpelled};
-ghost use Rattle.space_model.specs.Texts.{event_pieces, reply_pieces, line_of_pieces};
+ghost use Rattle.space_model.specs.Texts.{event_pieces, malformed_pieces, reply_pieces, line_of_pieces};
 
 use crate::commands::put_command;
-use crate::line::Line;
+use crate::line::{Line, put, put_decimal};
 use crate::outputs::{put_event, put_reply};
 use space_io::{Sink, WriteFault, write_all};
 use space_model::{Command, Event, Reply};
@@ -52,6 +52,20 @@ pub fn write_reply<K: Sink>(reply: &Reply, sink: &mut K) -> Result<(), WriteFaul
 {
     let mut line = Line::new();
     put_reply(&mut line, *reply);
+    line.push(LF);
+    write_all(sink, line.as_slice())
+}
+
+/// Writes that the line with this number is malformed or too long. At an `Err` a prefix of it was written.
+pub fn write_malformed<K: Sink>(number: u64, sink: &mut K) -> Result<(), WriteFault>
+    ensures bytes { OnOk result (Appends (K.written sink.old) (K.written sink.new) (line_of_pieces (malformed_pieces number))) }
+    ensures prefix { AppendsPrefix (K.written sink.old) (K.written sink.new) (line_of_pieces (malformed_pieces number)) }
+    ensures cause { HasCause (K.faults sink.old) (K.faults sink.new) result }
+{
+    let mut line = Line::new();
+    put(&mut line, b"line ");
+    put_decimal(&mut line, number);
+    put(&mut line, b": malformed");
     line.push(LF);
     write_all(sink, line.as_slice())
 }

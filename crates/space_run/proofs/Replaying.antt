@@ -1,0 +1,216 @@
+-- A replay goes on by one line, and how it ends.
+use Rattle.std.proofs.Common.{◌≡◌, ◌⊎◌, ◌+◌, ◌≤◌, ◌<◌, ◌^◌, ℕ, List, [], ◌∷◌, ◌++◌, Option, Some, None, refl, ap, ◌∙◌, sym, subst, Result, Ok, Err, is_err, OnOk, false, IsTrue, Bool, length, length-append, arith, inl, inr, ⊎_elim}
+use mathlib.Core.List.{append_assoc}
+use Rattle.std.specs.List.{onto_first}
+use Rattle.std.proofs.lemmas.List.{append-nil}
+use Rattle.std.specs.Io.KnownBytes.{Appends, Consumes, IsAtEnd}
+use Rattle.std.proofs.KnownBytes.{Appends-nil, Appends-trans, Consumes-nil, Consumes-trans}
+use Rattle.space_io.specs.Reading.{Reading, Takes, Gives, at_start}
+use Rattle.space_io.specs.Next.{IsEnd}
+use Rattle.space_model.specs.declared.command.Command.{Command}
+use Rattle.space_model.specs.Grammar.{AreCommands, IsReading}
+use Rattle.space_model.specs.Lawful.{LawfulAll}
+use Rattle.space_model.specs.Lines.{lines_of, HasNoLf, StartsTooLong, MOST_BYTES}
+use Rattle.space_model.specs.Outputs.{Output}
+use Rattle.space_model.specs.State.{opening}
+use Rattle.space_model.specs.Texts.{text_of, AreSpelled, line_of_pieces, malformed_pieces}
+use Rattle.space_model.proofs.RunLemmas.{LawfulAll-more, AreCommands-more, text_of-append, AreSpelled-append}
+use Rattle.space_run.specs.Progress.{HasReplayed}
+use Rattle.space_run.specs.Replays.{Replays, StopsAtLine, HasBadNext, HasReachedLimit, IsMalformed, IsWholeInput}
+use Rattle.space_run.specs.Stands.{Stands}
+use Rattle.space_run.specs.Steps.{Steps}
+use Rattle.space_run.specs.Views.{View, empty_view}
+
+-- before the first line
+pub started : (r w : Option (List ℕ)) (limit : ℕ) → Stands (empty_view limit) (opening limit) → HasReplayed limit r r w w at_start (empty_view limit)
+started r w limit stands = record {
+  bytes = [];
+  taken = Consumes-nil r;
+  lines = [];
+  cut = λ more h. refl;
+  numbered = refl;
+  at_end = λ h. cc;
+  counted = refl;
+  commands = [];
+  read = refl;
+  outputs = [];
+  state = opening limit;
+  stands = stands;
+  lawful = (refl, refl);
+  spelled = tt;
+  written = Appends-nil w;
+}
+
+-- more bytes were taken
+pub after_taking : (limit : ℕ) (r0 r r' w0 w : Option (List ℕ)) (old mid : Reading) (view : View) → HasReplayed limit r0 r w0 w old view → Takes r r' old mid → HasReplayed limit r0 r' w0 w mid view
+after_taking limit r0 r r' w0 w old mid view h takes = record {
+  bytes = h.bytes ++ takes.bytes;
+  taken = Consumes-trans r0 r r' h.bytes takes.bytes h.taken takes.consumed;
+  lines = h.lines;
+  cut = λ more ended.
+      rw (append_assoc h.bytes takes.bytes more, takes.pending, append_assoc old.pending takes.bytes more)
+      (h.cut (takes.bytes ++ more) (λ told. let stays = takes.stays told in rw stays.0 (ended stays.1)));
+  numbered = takes.number ∙ h.numbered;
+  at_end = λ ended. takes.at_end h.at_end ended;
+  counted = omega (arith, takes.taken, h.counted, length-append h.bytes takes.bytes);
+  commands = h.commands;
+  read = h.read;
+  outputs = h.outputs;
+  state = h.state;
+  stands = h.stands;
+  lawful = h.lawful;
+  spelled = h.spelled;
+  written = h.written;
+}
+
+-- the next line was given, and its command answered
+pub after_line : (limit : ℕ) (r0 r w0 w w' : Option (List ℕ)) (mid new : Reading) (old_view view : View) (command : Command) → HasReplayed limit r0 r w0 w mid old_view → Gives mid new →
+    IsReading new.line (Some command) → Steps old_view view command (Appends w w') → HasReplayed limit r0 r w0 w' new view
+after_line limit r0 r w0 w w' mid new old_view view command h gives reading steps =
+    let step = steps h.state h.stands in
+    record {
+      bytes = h.bytes;
+      taken = h.taken;
+      lines = h.lines ++ new.line ∷ [];
+      cut = λ more ended.
+          h.cut more (λ told. ended (rw gives.ended told)) ∙ ap (λ xs. h.lines ++ xs) (gives.next more ended) ∙ sym (append_assoc h.lines (new.line ∷ []) (lines_of (new.pending ++ more)));
+      numbered = omega (arith, gives.number, h.numbered, length-append h.lines (new.line ∷ []));
+      at_end = λ ended. h.at_end (rw gives.ended at ended);
+      counted = gives.taken ∙ h.counted;
+      commands = h.commands ++ command ∷ [];
+      read = AreCommands-more h.lines new.line h.commands (Some command) h.read gives.short reading;
+      outputs = h.outputs ++ step.outputs;
+      state = step.state;
+      stands = step.stands;
+      lawful = LawfulAll-more (opening limit) h.state step.state h.commands command h.outputs step.outputs h.lawful step.lawful;
+      spelled = AreSpelled-append h.outputs step.outputs h.spelled step.spelled;
+      written = rw text_of-append (Appends-trans w0 w w' _ _ h.written step.written);
+    }
+
+-- the end was reached
+pub at_the_end : (limit : ℕ) (r0 r w0 w : Option (List ℕ)) (mid new : Reading) (view : View) → HasReplayed limit r0 r w0 w mid view → IsEnd mid new → Replays limit r0 r w0 w
+at_the_end limit r0 r w0 w mid new view h end =
+    let pending : h.lines ++ lines_of (mid.pending ++ []) ≡ h.lines = rw end.pending (append-nil h.lines) in
+    let all : lines_of h.bytes ≡ h.lines = ap lines_of (sym (append-nil h.bytes)) ∙ h.cut [] (λ told. refl) ∙ pending in
+    record {
+      bytes = h.bytes;
+      taken = h.taken;
+      at_end = h.at_end end.ended;
+      commands = h.commands;
+      read = rw all h.read;
+      outputs = h.outputs;
+      state = h.state;
+      lawful = h.lawful;
+      spelled = h.spelled;
+      written = h.written;
+    }
+
+-- a call that isn't an error kept its promise
+pub kept_promise : {T E P : Type 0} (result : Result T E) → is_err result ≡ false → OnOk result P → P
+kept_promise (Ok x) e h = h
+kept_promise (Err x) e h = cc
+
+-- the next line is bad, and that was written
+pub stopped : (limit : ℕ) (r0 r w0 w w' : Option (List ℕ)) (mid : Reading) (view : View) (number : ℕ) → (h : HasReplayed limit r0 r w0 w mid view) → number ≡ mid.number + 1 →
+    ((more : List ℕ) → (IsTrue mid.ended → more ≡ []) → HasBadNext (h.bytes ++ more) h.lines) → Appends w w' (line_of_pieces (malformed_pieces number)) → StopsAtLine limit r0 r w0 w'
+stopped limit r0 r w0 w w' mid view number h e next written =
+    let place : number ≡ length h.lines + 1 = e ∙ ap (λ n. n + 1) h.numbered in
+    record {
+      bytes = h.bytes;
+      taken = h.taken;
+      ended = mid.ended;
+      at_end = h.at_end;
+      lines = h.lines;
+      next = next;
+      commands = h.commands;
+      read = h.read;
+      outputs = h.outputs;
+      state = h.state;
+      lawful = h.lawful;
+      spelled = h.spelled;
+      written = Appends-trans w0 w w' (text_of h.outputs) (line_of_pieces (malformed_pieces (length h.lines + 1))) h.written (subst (λ n. Appends w w' (line_of_pieces (malformed_pieces n))) place written);
+    }
+
+-- a line that was given is malformed
+pub malformed_line : (limit : ℕ) (r0 r w0 w : Option (List ℕ)) (mid new : Reading) (view : View) → (h : HasReplayed limit r0 r w0 w mid view) → Gives mid new → IsMalformed new.line →
+    (more : List ℕ) → (IsTrue mid.ended → more ≡ []) → HasBadNext (h.bytes ++ more) h.lines
+malformed_line limit r0 r w0 w mid new view h gives malformed more ended = record {
+  bad = new.line;
+  others = lines_of (new.pending ++ more);
+  cut = h.cut more ended ∙ ap (λ xs. h.lines ++ xs) (gives.next more (λ told. ended (rw (← gives.ended) told)));
+  is_bad = inl malformed;
+}
+
+-- a line that begins with so many bytes has at least as many
+record BeginsLong (bytes : List ℕ) (count : ℕ) : Type 0 where
+  line : List ℕ
+  others : List (List ℕ)
+  cut : lines_of bytes ≡ line ∷ others
+  long : count ≤ length line
+
+onto_long : (b : ℕ) (ls : List (List ℕ)) → (line : List ℕ) × (others : List (List ℕ)) × (onto_first b ls ≡ line ∷ others) × (1 ≤ length line)
+onto_long b [] = (b ∷ [], [], refl, omega arith)
+onto_long b (l ∷ ls) = (b ∷ l, ls, refl, omega arith)
+
+begins_long : (b : ℕ) (front rest : List ℕ) → HasNoLf (b ∷ front) → BeginsLong (b ∷ front ++ rest) (length (b ∷ front))
+begins_long b [] rest h =
+    let o = onto_long b (lines_of rest) in
+    record { line = o.0; others = o.1; cut = rw h.0 o.2; long = o.3 }
+begins_long b (c ∷ front) rest h =
+    let later = begins_long c front rest h.1 in
+    let long = later.long in
+    record {
+      line = b ∷ later.line;
+      others = later.others;
+      cut = rw (h.0, later.cut) refl;
+      long = omega arith;
+    }
+
+starts_long : (front rest : List ℕ) → HasNoLf front → 0 < length front → BeginsLong (front ++ rest) (length front)
+starts_long [] rest h some = absurd (omega arith)
+starts_long (b ∷ front) rest h some = begins_long b front rest h
+
+-- the next line is too long
+pub long_line : (limit : ℕ) (r0 r w0 w : Option (List ℕ)) (mid : Reading) (view : View) → (h : HasReplayed limit r0 r w0 w mid view) → StartsTooLong mid.pending →
+    (more : List ℕ) → (IsTrue mid.ended → more ≡ []) → HasBadNext (h.bytes ++ more) h.lines
+long_line limit r0 r w0 w mid view h long more ended =
+    let bytes : mid.pending ++ more ≡ long.front ++ (long.rest ++ more) = rw long.whole (append_assoc long.front long.rest more) in
+    let limit = long.long in
+    let begins = starts_long long.front (long.rest ++ more) long.no_lf (omega arith) in
+    let reaches = begins.long in
+    record {
+      bad = begins.line;
+      others = begins.others;
+      cut = h.cut more ended ∙ ap (λ xs. h.lines ++ xs) (ap lines_of bytes ∙ begins.cut);
+      is_bad = inr (omega arith);
+    }
+
+pub limit_reached : (limit : ℕ) (r0 r w0 w : Option (List ℕ)) (mid : Reading) (view : View) → HasReplayed limit r0 r w0 w mid view → mid.taken ≡ 2 ^ 32 → HasReachedLimit r0 r
+limit_reached limit r0 r w0 w mid view h many = record { bytes = h.bytes; taken = h.taken; many = sym h.counted ∙ many }
+
+-- what is left of a whole input
+record IsRest (rest_before rest_after : Option (List ℕ)) (bytes taken : List ℕ) : Type 0 where
+  more : List ℕ
+  whole : bytes ≡ taken ++ more
+  left : rest_after ≡ Some more
+
+rest_of : (r0 r : Option (List ℕ)) (bytes taken : List ℕ) → r0 ≡ Some bytes → Consumes r0 r taken → IsRest r0 r bytes taken
+rest_of None r bytes taken e c = absurd (let f : None ≡ Some bytes = e in cc)
+rest_of (Some xs) None bytes taken e c = absurd c
+rest_of (Some xs) (Some ys) bytes taken e c = let same : xs ≡ bytes = cc in record { more = ys; whole = sym same ∙ c; left = refl }
+
+AreCommands-bad : (lines others : List (List ℕ)) (bad : List ℕ) (commands : List Command) → IsMalformed bad ⊎ (MOST_BYTES < length bad) → AreCommands (lines ++ bad ∷ others) commands → ⊥
+AreCommands-bad [] others bad commands is_bad (found, rest, short, reading, e, more) = ⊎_elim (λ malformed. malformed found reading) (λ long. omega arith) is_bad
+AreCommands-bad (line ∷ lines) others bad commands is_bad (found, rest, short, reading, e, more) = AreCommands-bad lines others bad rest is_bad more
+
+-- a whole lawful input has no bad line, and is no longer than may be taken
+pub no_stop : (limit : ℕ) (r0 r w0 w : Option (List ℕ)) → IsWholeInput r0 → StopsAtLine limit r0 r w0 w → ⊥
+no_stop limit r0 r w0 w input stop =
+    let rest = rest_of r0 r input.bytes stop.bytes input.told stop.taken in
+    let bad = stop.next rest.more (λ told. rw rest.left at (stop.at_end told)) in
+    AreCommands-bad stop.lines bad.others bad.bad input.commands bad.is_bad (rw (rest.whole, bad.cut) at input.read)
+
+pub no_limit : (r0 r : Option (List ℕ)) → IsWholeInput r0 → HasReachedLimit r0 r → ⊥
+no_limit r0 r input reached =
+    let rest = rest_of r0 r input.bytes reached.bytes input.told reached.taken in
+    omega (arith, input.few, reached.many, ap length rest.whole, length-append reached.bytes rest.more)

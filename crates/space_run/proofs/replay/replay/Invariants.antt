@@ -1,0 +1,15 @@
+use Rattle.std.proofs.Common.{◌≡◌, ◌-◌, ◌^◌, ◌≤◌}
+use Rattle.space_run.specs.Progress.{HasReplayed}
+use Rattle.space_run.proofs.replay.replay.Given as goal
+
+abbrev pub invariant-each_line : goal.invariant-each_line
+invariant-each_line g l = record {
+  done : HasReplayed 256 (g.S.Source.rest l.fn.source) (g.S.Source.rest l.source) (g.K.Sink.written l.fn.sink) (g.K.Sink.written l.sink) l.lines l.space;
+  counted : l.lines.number ≤ 2 ^ 32;
+  numbered : l.number ≡ l.lines.number;
+  read_faults : g.S.Source.faults l.fn.source ≤ g.S.Source.faults l.source;
+  write_faults : g.K.Sink.faults l.fn.sink ≤ g.K.Sink.faults l.sink;
+}
+
+abbrev pub decreases-each_line : goal.decreases-each_line
+decreases-each_line g l = 2 ^ 33 - l.lines.number

@@ -1,0 +1,79 @@
+-- What a replay has done, by the status that it answers.
+use Rattle.std.specs.Prelude.{◌≡◌, ◌⊎◌, ◌+◌, ◌<◌, ◌≤◌, ◌^◌, ℕ, Bool, List, [], ◌∷◌, ◌++◌, length, map, codes, Option, Some, IsTrue, String}
+use Rattle.std.specs.String.{string_bytes}
+use Rattle.std.specs.declared.alloc.Global.{Global}
+use Rattle.std.specs.Io.KnownBytes.{Appends, Consumes, IsAtEnd}
+use Rattle.space_io.specs.Causes.{Rose}
+use Rattle.space_model.specs.declared.command.Command.{Command}
+use Rattle.space_model.specs.Grammar.{Commands, AreCommands, IsReading}
+use Rattle.space_model.specs.Lawful.{LawfulAll}
+use Rattle.space_model.specs.Lines.{lines_of, MOST_BYTES}
+use Rattle.space_model.specs.Outputs.{Output}
+use Rattle.space_model.specs.State.{State, opening}
+use Rattle.space_model.specs.Texts.{text_of, AreSpelled, line_of_pieces, malformed_pieces}
+
+-- the words of the command line are those of a replay
+abbrev pub IsReplay : List (String Global) → Type 0
+IsReplay words = map string_bytes words ≡ codes "replay" ∷ []
+
+-- The source was read to its end. The bytes taken are commands, and the bytes written are the text of outputs that
+-- are lawful for exactly these commands, from the opening on.
+pub record Replays (limit : ℕ) (rest_before rest_after written_before written_after : Option (List ℕ)) : Type 0 where
+  pub bytes : List ℕ
+  pub taken : Consumes rest_before rest_after bytes
+  pub at_end : IsAtEnd rest_after
+  pub commands : List Command
+  pub read : Commands bytes commands
+  pub outputs : List Output
+  pub state : State
+  pub lawful : LawfulAll (opening limit) commands outputs state
+  -- so the bytes name these outputs and no others
+  pub spelled : AreSpelled outputs
+  pub written : Appends written_before written_after (text_of outputs)
+
+-- the line is in no form
+abbrev pub IsMalformed : List ℕ → Type 0
+IsMalformed line = (found : Option Command) → IsReading line found → ⊥
+
+-- the line that comes after these is malformed or too long
+pub record HasBadNext (bytes : List ℕ) (lines : List (List ℕ)) : Type 0 where
+  pub bad : List ℕ
+  pub others : List (List ℕ)
+  pub cut : lines_of bytes ≡ lines ++ bad ∷ others
+  pub is_bad : IsMalformed bad ⊎ (MOST_BYTES < length bad)
+
+-- The next line is malformed or too long, whatever comes after the bytes taken, or nothing where the source told its
+-- end. All lines before it are answered, and that it is malformed is written last.
+pub record StopsAtLine (limit : ℕ) (rest_before rest_after written_before written_after : Option (List ℕ)) : Type 0 where
+  pub bytes : List ℕ
+  pub taken : Consumes rest_before rest_after bytes
+  pub ended : Bool
+  pub at_end : IsTrue ended → IsAtEnd rest_after
+  pub lines : List (List ℕ)
+  pub next : (more : List ℕ) → (IsTrue ended → more ≡ []) → HasBadNext (bytes ++ more) lines
+  pub commands : List Command
+  pub read : AreCommands lines commands
+  pub outputs : List Output
+  pub state : State
+  pub lawful : LawfulAll (opening limit) commands outputs state
+  pub spelled : AreSpelled outputs
+  pub written : Appends written_before written_after (text_of outputs ++ line_of_pieces (malformed_pieces (length lines + 1)))
+
+-- as many bytes were taken as may be, without an end
+pub record HasReachedLimit (rest_before rest_after : Option (List ℕ)) : Type 0 where
+  pub bytes : List ℕ
+  pub taken : Consumes rest_before rest_after bytes
+  pub many : length bytes ≡ 2 ^ 32
+
+-- the source tells its bytes, each line of which is lawful, and they are fewer than may be taken
+pub record IsWholeInput (rest_before : Option (List ℕ)) : Type 0 where
+  pub bytes : List ℕ
+  pub told : rest_before ≡ Some bytes
+  pub commands : List Command
+  pub read : Commands bytes commands
+  pub few : length bytes < 2 ^ 32
+
+-- neither count of faults rose
+pub record IsCalm (source_before source_after sink_before sink_after : ℕ) : Type 0 where
+  pub source : Rose source_before source_after → ⊥
+  pub sink : Rose sink_before sink_after → ⊥
