@@ -110,29 +110,29 @@ pub spelling_is_read : (command : Command) → IsWritable command → IsSpelled 
 spelling_is_read (New root fields guard style) w s =
     let marks : IsCut (codes "P M") (codes "P" ∷ codes "M" ∷ []) = record { is = refl } in
     let words : IsCut (command_text (New root fields Protected Movable)) (codes "new" ∷ root ∷ decimal fields ∷ codes "P" ∷ codes "M" ∷ []) =
-        word_off (codes "new") (refl, (refl, (refl, tt))) (word_off root (HasNoSpace-ident root w.0) (word_off (decimal fields) (HasNoSpace-decimal fields s.1.0) marks)) in
+    word_off (codes "new") (refl, (refl, (refl, tt))) (word_off root (HasNoSpace-ident root w.0) (word_off (decimal fields) (HasNoSpace-decimal fields s.1.0) marks)) in
     (decimal fields, rw (w.2, w.3) words.is, w.0, IsNumber-decimal fields s.1.0, w.1, w.2, w.3)
 spelling_is_read (Set root value) w s =
     let v = text_of_pieces (input_pieces value) in
     let words : IsCut (command_text (Set root value)) (codes "set" ∷ root ∷ v ∷ []) =
-        word_off (codes "set") (refl, (refl, (refl, tt))) (word_off root (HasNoSpace-ident root w.0) (last_word v (input_no_space value w.1 s.1))) in
+    word_off (codes "set") (refl, (refl, (refl, tt))) (word_off root (HasNoSpace-ident root w.0) (last_word v (input_no_space value w.1 s.1))) in
     (v, words.is, w.0, input_read value w.1 s.1)
 spelling_is_read (Store object index value) w s =
     let t = operand_spelled object _ s in
     let a = text_of_pieces (operand_pieces object) in
     let v = text_of_pieces (input_pieces value) in
     let words : IsCut (command_text (Store object index value)) (codes "store" ∷ a ∷ decimal index ∷ v ∷ []) =
-        word_off (codes "store") (refl, (refl, (refl, (refl, (refl, tt))))) (operand_off object _ w.0 (word_off (decimal index) (HasNoSpace-decimal index t.0) (last_word v (input_no_space value w.2 t.1)))) in
+    word_off (codes "store") (refl, (refl, (refl, (refl, (refl, tt))))) (operand_off object _ w.0 (word_off (decimal index) (HasNoSpace-decimal index t.0) (last_word v (input_no_space value w.2 t.1)))) in
     (a, decimal index, v, words.is, operand_read object w.0, IsNumber-decimal index t.0, input_read value w.2 t.1)
 spelling_is_read (Load root object index) w s =
     let t = operand_spelled object _ s.1 in
     let a = text_of_pieces (operand_pieces object) in
     let words : IsCut (command_text (Load root object index)) (codes "load" ∷ root ∷ a ∷ decimal index ∷ []) =
-        word_off (codes "load") (refl, (refl, (refl, (refl, tt)))) (word_off root (HasNoSpace-ident root w.0) (operand_off object _ w.1 (last_number index t.0))) in
+    word_off (codes "load") (refl, (refl, (refl, (refl, tt)))) (word_off root (HasNoSpace-ident root w.0) (operand_off object _ w.1 (last_number index t.0))) in
     (a, decimal index, words.is, w.0, operand_read object w.1, IsNumber-decimal index t.0)
 spelling_is_read (Same left right) w s =
     let a = text_of_pieces (operand_pieces left) in
     let b = text_of_pieces (operand_pieces right) in
     let words : IsCut (command_text (Same left right)) (codes "same" ∷ a ∷ b ∷ []) =
-        word_off (codes "same") (refl, (refl, (refl, (refl, tt)))) (operand_off left _ w.0 (last_word b (operand_no_space right w.1))) in
+    word_off (codes "same") (refl, (refl, (refl, (refl, tt)))) (operand_off left _ w.0 (last_word b (operand_no_space right w.1))) in
     (a, b, words.is, operand_read left w.0, operand_read right w.1)

@@ -10,6 +10,8 @@ mod line;
 mod numbers;
 mod outputs;
 mod reader;
+#[cfg(test)]
+mod tests;
 mod words;
 mod writer;
 

@@ -1,5 +1,6 @@
 // Writes the lines of a trace. Each goes to the sink as one piece.
-ghost use Rattle.std.specs.Prelude.{OnOk};
+ghost use Rattle.std.specs.Prelude.{◌<◌, [], ◌∷◌, ◌++◌, OnOk};
+ghost use Rattle.arrayvec.specs.ArrayVec.{array_vec_len};
 ghost use Rattle.std.specs.Io.KnownBytes.{Appends};
 ghost use Rattle.space_io.specs.Causes.{HasCause};
 ghost use Rattle.space_io.specs.Sinks.{AppendsPrefix};
@@ -15,6 +16,17 @@ use space_model::{Command, Event, Reply};
 
 const LF: u8 = b'\n';
 
+// Writes the line and its LF, as one piece.
+fn write_line<K: Sink>(line: &mut Line, sink: &mut K) -> Result<(), WriteFault>
+    requires { array_vec_len line.old < 256 }
+    ensures bytes { OnOk result (Appends (K.written sink.old) (K.written sink.new) (line.old.items ++ 10 ∷ [])) }
+    ensures prefix { AppendsPrefix (K.written sink.old) (K.written sink.new) (line.old.items ++ 10 ∷ []) }
+    ensures cause { HasCause (K.faults sink.old) (K.faults sink.new) result }
+{
+    line.push(LF);
+    write_all(sink, line.as_slice())
+}
+
 /// Writes the line of the command. At an `Err` a prefix of it was written.
 ///
 /// A command that no line spells is written too, and `read_command` finds its line malformed.
@@ -26,8 +38,7 @@ pub fn write_command<K: Sink>(command: &Command, sink: &mut K) -> Result<(), Wri
 {
     let mut line = Line::new();
     put_command(&mut line, *command);
-    line.push(LF);
-    write_all(sink, line.as_slice())
+    write_line(&mut line, sink)
 }
 
 /// Writes the line of the event. At an `Err` a prefix of it was written.
@@ -39,8 +50,7 @@ pub fn write_event<K: Sink>(event: &Event, sink: &mut K) -> Result<(), WriteFaul
 {
     let mut line = Line::new();
     put_event(&mut line, *event);
-    line.push(LF);
-    write_all(sink, line.as_slice())
+    write_line(&mut line, sink)
 }
 
 /// Writes the line of the reply. At an `Err` a prefix of it was written.
@@ -52,8 +62,7 @@ pub fn write_reply<K: Sink>(reply: &Reply, sink: &mut K) -> Result<(), WriteFaul
 {
     let mut line = Line::new();
     put_reply(&mut line, *reply);
-    line.push(LF);
-    write_all(sink, line.as_slice())
+    write_line(&mut line, sink)
 }
 
 /// Writes that the line with this number is malformed or too long. At an `Err` a prefix of it was written.

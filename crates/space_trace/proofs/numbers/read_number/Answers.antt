@@ -11,4 +11,4 @@ returns-in_err-number c =
     rw c.from_residual-in_err-number.ensures (too_large c.args.text.now c.loop-b.b-index c.loop-b.number c.loop-b-test.true c.if-b-lt48.false c.if-b-gt57.false c.loop-b.invariant.read (omega (arith, c.in_err-number.ensures, c.in_ok-checked_mul.ensures, c.from.ensures)))
 
 pub returns : goal.returns
-returns c = at_end c.args.text.now c.loop-b.b-index c.loop-b.number c.loop-b-test.false c.loop-b.invariant.read (search rules) c.if-text-gt20.false c.loop-b.invariant.fits
+returns c = at_end c.args.text.now c.loop-b.b-index c.loop-b.number c.loop-b-test.false c.loop-b.invariant.read (search rules) (search rules) c.loop-b.invariant.fits

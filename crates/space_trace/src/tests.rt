@@ -1,0 +1,193 @@
+// Each form of a line once, with texts that were written by hand.
+use crate::{read_command, write_command, write_event, write_reply};
+use space_io::MemorySink;
+use space_model::{Event, Kind, Refusal, Reply, Value};
+use std::alloc::{AllocError as NoMemory, Global};
+use std::test::Fail;
+
+// The line, and how its command is spelled.
+const FORMS: [(&[u8], &[u8]); 9] = [
+    (b"new a 3 P M", b"new a 3 P M\n"),
+    (b"new Ab_9 000 P M", b"new Ab_9 0 P M\n"),
+    (b"set _a b", b"set _a b\n"),
+    (b"set a nil", b"set a nil\n"),
+    (
+        b"set a =4611686018427387903",
+        b"set a =4611686018427387903\n",
+    ),
+    (b"set a =00007", b"set a =7\n"),
+    (
+        b"store a 18446744073709551615 nil",
+        b"store a 18446744073709551615 nil\n",
+    ),
+    (b"load a b 10", b"load a b 10\n"),
+    (b"same a b", b"same a b\n"),
+];
+
+const MALFORMED: [&[u8]; 24] = [
+    b"",
+    b"; a comment",
+    b" same a b",
+    b"same a b ",
+    b"same  a b",
+    b"same a b\r",
+    b"same a",
+    b"same a b c",
+    b"same @0 b",
+    b"Same a b",
+    b"new a 3 U M",
+    b"new a 3 P K",
+    b"new a 4 P M",
+    b"new a 000000000000000000001 P M",
+    b"new a 0x1 P M",
+    b"new nil 1 P M",
+    b"new 1a 1 P M",
+    b"new a23456789012345678901234567890123 1 P M",
+    b"load a b 18446744073709551616",
+    b"load a nil 0",
+    b"set a =4611686018427387904",
+    b"set a =",
+    b"set a 1",
+    b"get a",
+];
+
+const EVENTS: [(Event, &[u8]); 4] = [
+    (Event::Gone { name: 7 }, b"! gone #7\n"),
+    (
+        Event::Verdict {
+            kind: Kind::Minor,
+            gone: 0,
+        },
+        b"! verdict minor 0\n",
+    ),
+    (
+        Event::Verdict {
+            kind: Kind::Major,
+            gone: 12,
+        },
+        b"! verdict major 12\n",
+    ),
+    (
+        Event::Verdict {
+            kind: Kind::Full,
+            gone: 3,
+        },
+        b"! verdict full 3\n",
+    ),
+];
+
+const REPLIES: [(Reply, &[u8]); 15] = [
+    (
+        Reply::Made {
+            name: 1,
+            address: 65536,
+        },
+        b"#1 0x10000\n",
+    ),
+    (
+        Reply::Made {
+            name: 20,
+            address: 0,
+        },
+        b"#20 0x0\n",
+    ),
+    (
+        Reply::Made {
+            name: 18446744073709551615,
+            address: 18446744073709551615,
+        },
+        b"#18446744073709551615 0xffffffffffffffff\n",
+    ),
+    (Reply::Full, b"full\n"),
+    (Reply::NoMemory, b"no memory\n"),
+    (Reply::Done, b"ok\n"),
+    (Reply::Read { value: Value::Nil }, b"nil\n"),
+    (
+        Reply::Read {
+            value: Value::Small(5),
+        },
+        b"=5\n",
+    ),
+    (
+        Reply::Read {
+            value: Value::Name(9),
+        },
+        b"#9\n",
+    ),
+    (Reply::Truth { yes: true }, b"true\n"),
+    (Reply::Truth { yes: false }, b"false\n"),
+    (
+        Reply::Refused {
+            why: Refusal::NoRoot,
+        },
+        b"error no root\n",
+    ),
+    (
+        Reply::Refused {
+            why: Refusal::NoWord,
+        },
+        b"error no word\n",
+    ),
+    (
+        Reply::Refused {
+            why: Refusal::NotObject,
+        },
+        b"error not an object\n",
+    ),
+    (
+        Reply::Refused {
+            why: Refusal::NoField,
+        },
+        b"error no field\n",
+    ),
+];
+
+// A sink that takes three bytes a call.
+fn small_sink(alloc: Global) -> Result<MemorySink, NoMemory> {
+    MemorySink::new(alloc, 300, 3, Vec::new(alloc))
+}
+
+#[test]
+fn forms_are_read_and_written(rt: HostRuntime) -> Result<(), Fail> {
+    for (line, spelling) in FORMS {
+        let mut sink = small_sink(rt.alloc())?;
+        let Ok(Some(command)) = read_command(line) else {
+            return Err(Fail::from("a line is malformed"));
+        };
+        assert!(rt; write_command(&command, &mut sink).is_ok());
+        assert!(rt; sink.bytes() == spelling);
+    }
+    Ok(())
+}
+
+#[test]
+fn other_lines_are_malformed(rt: HostRuntime) -> Result<(), Fail> {
+    for line in MALFORMED {
+        assert!(rt; read_command(line).is_err());
+    }
+    Ok(())
+}
+
+#[test]
+fn outputs_have_their_texts(rt: HostRuntime) -> Result<(), Fail> {
+    for (event, text) in EVENTS {
+        let mut sink = small_sink(rt.alloc())?;
+        assert!(rt; write_event(&event, &mut sink).is_ok());
+        assert!(rt; sink.bytes() == text);
+    }
+    for (reply, text) in REPLIES {
+        let mut sink = small_sink(rt.alloc())?;
+        assert!(rt; write_reply(&reply, &mut sink).is_ok());
+        assert!(rt; sink.bytes() == text);
+    }
+    Ok(())
+}
+
+#[test]
+fn a_failing_sink_has_a_prefix(rt: HostRuntime) -> Result<(), Fail> {
+    let failing = [3u64].to_vec(rt.alloc())?;
+    let mut sink = MemorySink::new(rt.alloc(), 300, 2, failing)?;
+    assert!(rt; write_reply(&Reply::NoMemory, &mut sink).is_err());
+    assert!(rt; sink.bytes() == b"no m".as_slice());
+    Ok(())
+}
