@@ -80,7 +80,7 @@ unfolding with_pool
 with_pool-next n page e =
     let long : length (replicate {A = Option ℕ} n (Some 0)) ≡ n = length-replicate {A = Option ℕ} n (Some 0) in
     let outside : nat_lt page (length (replicate {A = Option ℕ} n (Some 0))) ≡ false = grind (arith, nat_tests, long) in
-    rw outside (replicate_more {A = Option ℕ} n (Some 0))
+    rw outside (replicate_more {X = Option ℕ} n (Some 0))
 
 inside_pages : (ps : List (Option ℕ)) (page : ℕ) → pool_at ps page ≡ Some 0 → page < length ps
 inside_pages ps page e = grind (arith, common_steps)

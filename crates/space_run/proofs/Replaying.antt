@@ -1,5 +1,6 @@
 -- A replay goes on by one line, and how it ends.
-use Rattle.std.proofs.Common.{◌≡◌, ◌⊎◌, ◌+◌, ◌≤◌, ◌<◌, ◌^◌, ℕ, List, [], ◌∷◌, ◌++◌, Option, Some, None, refl, ap, ◌∙◌, sym, subst, Result, Ok, Err, is_err, OnOk, false, IsTrue, Bool, length, length-append, arith, inl, inr, ⊎_elim}
+use Rattle.std.proofs.lemmas.Bool.Decides.{eqb_tells}
+use Rattle.std.proofs.Common.{◌≡◌, ◌≢◌, ◌⊎◌, ◌+◌, ◌≤◌, ◌<◌, ◌^◌, ℕ, List, [], ◌∷◌, ◌++◌, Option, Some, None, refl, ap, ◌∙◌, sym, subst, Result, Ok, Err, is_err, OnOk, false, IsTrue, Bool, length, length-append, arith, inl, inr, ⊎_elim}
 use mathlib.Core.List.{append_assoc}
 use Rattle.std.specs.List.{onto_first}
 use Rattle.std.proofs.lemmas.List.{append-nil}
@@ -214,3 +215,7 @@ pub no_limit : (r0 r : Option (List ℕ)) → IsWholeInput r0 → HasReachedLimi
 no_limit r0 r input reached =
     let rest = rest_of r0 r input.bytes reached.bytes input.told reached.taken in
     omega (arith, input.few, reached.many, ap length rest.whole, length-append reached.bytes rest.more)
+
+-- no other end is left
+pub completes : (status : ℕ) → (status ≢ 1) × (status ≢ 2) × (status ≤ 6) → (status ≡ 3 → ⊥) → (status ≡ 4 → ⊥) → (status ≡ 5 → ⊥) → (status ≡ 6 → ⊥) → (status ≡ 0) ⊎ (status ≡ 1)
+completes status known three four five six = ⊎_elim (λ zero. inl zero.1) (λ more. absurd (omega (arith, known.0, known.1, known.2, more.1))) (eqb_tells status 0)

@@ -1,5 +1,4 @@
 use Rattle.std.proofs.Common.{arith, rules, sym, ap, ◌∙◌, ◌+◌}
-use Rattle.space_run.proofs.Commands.{can_answer}
 use Rattle.space_run.proofs.Replaying.{started, after_taking, after_line, at_the_end, kept_promise, stopped, malformed_line, long_line, limit_reached}
 use Rattle.space_run.proofs.replay.replay.Goals as goal
 
@@ -12,3 +11,44 @@ returns-in-Ok-None-clause-done g c =
     let found = rw c.in-Ok-None.is at next.line in
     let end = rw c.in-Ok-None.field-0-is at found in
     λ _. at_the_end 256 _ _ _ _ next.mid _ _ (after_taking 256 _ _ _ _ _ _ _ _ c.each_line.invariant.done next.takes) end
+
+pub each_line-preserved-else-is_err : goal.each_line-preserved-else-is_err
+each_line-preserved-else-is_err g c =
+    let next = c.next.follows.holds-at-none in
+    let found = rw c.in-Ok-Some.is at next.line in
+    let line = rw c.in-Ok-Some.field-0-is at found in
+    let reading = rw c.in-Some.is at c.in-Ok.ensures.found in
+    record {
+      done = after_line 256 _ _ _ _ _ next.mid _ _ _ c.in-Some.command (after_taking 256 _ _ _ _ _ _ _ _ c.each_line.invariant.done next.takes) line.gives (rw line.bytes at reading) (kept_promise c.step.result (sym c.is_err.ensures.value ∙ c.if-is_err.false) c.step.ensures.steps);
+      counted = line.counted;
+      numbered = line.number;
+      read_faults = omega (arith, c.each_line.invariant.read_faults, c.next.ensures.counted);
+      write_faults = omega (arith, c.each_line.invariant.write_faults, c.step.ensures.cause.later);
+    }
+
+pub returns-in-Err-InputLimit-clause-limit : goal.returns-in-Err-InputLimit-clause-limit
+returns-in-Err-InputLimit-clause-limit g c =
+    let next = c.next.follows.holds-at-none in
+    let fault = rw c.in-Err-InputLimit.is at next.fault in
+    let limit = rw c.in-Err-InputLimit.field-0-is at fault.0 in
+    λ _. limit_reached 256 _ _ _ _ next.mid _ (after_taking 256 _ _ _ _ _ _ _ _ c.each_line.invariant.done next.takes) limit.1
+
+pub returns-in_default-clause-malformed : goal.returns-in_default-clause-malformed
+returns-in_default-clause-malformed g c =
+    let next = c.next.follows.holds-at-none in
+    let found = rw c.in-Ok-Some.is at next.line in
+    let line = rw c.in-Ok-Some.field-0-is at found in
+    let done = after_taking 256 _ _ _ _ _ _ _ _ c.each_line.invariant.done next.takes in
+    λ three. stopped 256 _ _ _ _ _ next.mid _ c.in-Ok-Some.line.number done (line.number ∙ line.gives.number)
+        (malformed_line 256 _ _ _ _ next.mid _ _ done line.gives (rw line.bytes at c.in_default.ensures.malformed))
+        (c.stop_at-in_default.ensures.written three)
+
+pub returns-in-Err-TooLong-clause-malformed : goal.returns-in-Err-TooLong-clause-malformed
+returns-in-Err-TooLong-clause-malformed g c =
+    let next = c.next.follows.holds-at-none in
+    let fault = rw c.in-Err-TooLong.is at next.fault in
+    let long = rw c.in-Err-TooLong.field-0-is at fault.0 in
+    let done = after_taking 256 _ _ _ _ _ _ _ _ c.each_line.invariant.done next.takes in
+    λ three. stopped 256 _ _ _ _ _ next.mid _ (c.each_line.number + 1) done (ap (λ n. n + 1) (c.each_line.invariant.numbered ∙ sym next.takes.number))
+        (long_line 256 _ _ _ _ next.mid _ done long)
+        (c.stop_at.ensures.written three)
