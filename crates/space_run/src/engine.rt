@@ -207,7 +207,7 @@ impl Space {
     {
         let found = match self.input_of(value) {
             Ok(found) => found,
-            Err(why) => return Reply::Refused { why },
+            Err(refusal) => return Reply::Refused { why: refusal },
         };
         match self.put_root(root, found) {
             Ok(()) => Reply::Done,

@@ -6,5 +6,7 @@ mod objects;
 mod operands;
 mod replay;
 mod roots;
+#[cfg(test)]
+mod tests;
 
 pub use replay::run;

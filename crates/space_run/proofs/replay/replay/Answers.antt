@@ -40,8 +40,8 @@ returns-in_default-clause-malformed g c =
     let line = rw c.in-Ok-Some.field-0-is at found in
     let done = after_taking 256 _ _ _ _ _ _ _ _ c.each_line.invariant.done next.takes in
     λ three. stopped 256 _ _ _ _ _ next.mid _ c.in-Ok-Some.line.number done (line.number ∙ line.gives.number)
-        (malformed_line 256 _ _ _ _ next.mid _ _ done line.gives (rw line.bytes at c.in_default.ensures.malformed))
-        (c.stop_at-in_default.ensures.written three)
+    (malformed_line 256 _ _ _ _ next.mid _ _ done line.gives (rw line.bytes at c.in_default.ensures.malformed))
+    (c.stop_at-in_default.ensures.written three)
 
 pub returns-in-Err-TooLong-clause-malformed : goal.returns-in-Err-TooLong-clause-malformed
 returns-in-Err-TooLong-clause-malformed g c =
@@ -50,5 +50,5 @@ returns-in-Err-TooLong-clause-malformed g c =
     let long = rw c.in-Err-TooLong.field-0-is at fault.0 in
     let done = after_taking 256 _ _ _ _ _ _ _ _ c.each_line.invariant.done next.takes in
     λ three. stopped 256 _ _ _ _ _ next.mid _ (c.each_line.number + 1) done (ap (λ n. n + 1) (c.each_line.invariant.numbered ∙ sym next.takes.number))
-        (long_line 256 _ _ _ _ next.mid _ done long)
-        (c.stop_at.ensures.written three)
+    (long_line 256 _ _ _ _ next.mid _ done long)
+    (c.stop_at.ensures.written three)

@@ -2,7 +2,7 @@ use Rattle.space_run.proofs.Answering.{set_done, set_unwritten, set_refused}
 use Rattle.space_run.proofs.engine.Space.set.Goals as goal
 
 pub returns-in-Err : goal.returns-in-Err
-returns-in-Err c = λ s h. set_refused c.args.self.now s h.represents c.args.root.now c.args.value.now c.in-Err.why c.in-Err.ensures
+returns-in-Err c = λ s h. set_refused c.args.self.now s h.represents c.args.root.now c.args.value.now c.in-Err.refusal c.in-Err.ensures
 
 pub returns-in-Ok-put_root : goal.returns-in-Ok-put_root
 returns-in-Ok-put_root c = λ s h.
