@@ -1,2 +1,3 @@
-pub mod Fits
-pub mod Writes
+mod Fits
+mod Writes
+pub mod SlotLaws

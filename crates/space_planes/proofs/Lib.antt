@@ -1,1 +1,2 @@
-pub mod Zips
+mod Zips
+pub mod Bits

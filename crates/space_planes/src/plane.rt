@@ -163,3 +163,49 @@ impl Plane {
         None
     }
 }
+
+#[cfg(test)]
+mod tests {
+    use super::*;
+    use std::test::Fail;
+
+    #[test]
+    fn a_new_plane_has_so_many_bits_and_all_are_0(rt: HostRuntime) -> Result<(), Fail> {
+        let plane = Plane::new(rt.alloc(), MOST_BITS)?;
+        assert!(rt; plane.len() == MOST_BITS);
+        assert!(rt; plane.count() == 0);
+        Ok(())
+    }
+
+    #[test]
+    fn each_call_on_two_small_planes(rt: HostRuntime) -> Result<(), Fail> {
+        let alloc = rt.alloc();
+        let mut left = Plane::new(alloc, 5)?;
+        let mut right = Plane::new(alloc, 9)?;
+        let mut out = Plane::new(alloc, 5)?;
+        left.set(1);
+        left.set(3);
+        right.reset(5);
+        right.fill(true);
+        right.clear(3);
+        assert!(rt; right.get(4) && !right.get(3));
+        left.and_not_into(&right, &mut out);
+        assert!(rt; out.count() == 1 && out.get(3));
+        left.and_into(&right, &mut out);
+        assert!(rt; out.count() == 1 && out.get(1));
+        left.or_into(&right, &mut out);
+        assert!(rt; out.count() == 5);
+        let places = [
+            (left.first_set_from(1), Some(1)),
+            (left.first_set_from(2), Some(3)),
+            (left.first_set_from(4), None),
+            (left.last_set_below(5), Some(3)),
+            (left.last_set_below(3), Some(1)),
+            (left.last_set_below(1), None),
+        ];
+        for (found, wanted) in places {
+            assert!(rt; found == wanted);
+        }
+        Ok(())
+    }
+}
