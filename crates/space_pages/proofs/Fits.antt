@@ -1,5 +1,5 @@
 -- A slot lies within its page.
-use Rattle.std.proofs.Common.{◌≡◌, ℕ, zero, suc, ◌+◌, ◌*◌, ◌/◌, ◌<◌, ◌≤◌, arith}
+use Rattle.std.proofs.Common.{ℕ, zero, suc, ◌+◌, ◌*◌, ◌<◌, ◌≤◌, arith}
 use Rattle.space_model.specs.Layout.{slot_bytes, page_slots}
 use Rattle.space_pages.specs.Slots.{words_of}
 

@@ -1,10 +1,10 @@
 -- The laws of slots, for the callers: what a slot holds once it, another one or a word was written.
-use Rattle.std.proofs.Common.{◌≡◌, ◌≢◌, ◌⊎◌, inl, inr, ℕ, ◌+◌, ◌-◌, ◌*◌, ◌<◌, ◌≤◌, List, length, take, drop, get_or, set, replicate, slice_set, arith, refl, ap, sym, ◌∙◌}
+use Rattle.std.proofs.Common.{◌≡◌, ◌≢◌, ◌⊎◌, inl, inr, ℕ, ◌+◌, ◌-◌, ◌*◌, ◌<◌, ◌≤◌, List, length, drop, get_or, replicate, slice_set, arith, sym, ◌∙◌}
 use Rattle.std.proofs.Math.Nat.{mul-le-mul_left}
 use Rattle.std.proofs.Math.Seq.{take-set-lt}
 use Rattle.std.proofs.lemmas.Bool.{cases_order}
 use Rattle.std.specs.Simd.Lanes.{put_chunk}
-use Rattle.std.proofs.lemmas.List.{same_lists, get_or-set_same, get_or-set_other, length-set, drop-set-add, take-replicate, drop-replicate}
+use Rattle.std.proofs.lemmas.List.{same_lists, get_or-set_other, length-set, drop-set-add, take-replicate, drop-replicate}
 use Rattle.std.proofs.lemmas.Simd.{length-put_chunk, length-chunk, get_or-chunk, get_or-put_chunk_at, get_or-put_chunk_below, get_or-put_chunk_above}
 use Rattle.space_model.specs.Layout.{page_slots}
 use Rattle.space_pages.specs.Slots.{words_of, slot_words, with_slot}

@@ -103,7 +103,8 @@ impl SlotPage {
         requires from { from < slots_of_page pool }
         ensures { self.new ≡ with_slot self.old pool to (slot_words other.now pool from) }
     {
-        self.slot_mut(pool, to).copy_from_slice(other.slot(pool, from));
+        let words = other.slot(pool, from);
+        self.slot_mut(pool, to).copy_from_slice(words);
     }
 
     /// Copies a slot to another one of the page, or to itself.
@@ -117,5 +118,37 @@ impl SlotPage {
         let target = slot_start(pool, to);
         self.words
             .copy_within(start..start + slot_len(pool), target);
+    }
+}
+
+#[cfg(test)]
+mod tests {
+    use super::*;
+    use std::test::Fail;
+
+    #[test]
+    fn a_new_page_has_only_zeros(rt: HostRuntime) -> Result<(), Fail> {
+        let page = SlotPage::new(rt.alloc())?;
+        assert!(rt; page.word(0) == 0 && page.word(PAGE_WORDS - 1) == 0);
+        Ok(())
+    }
+
+    #[tactic(auto, unfolding(space_model::specs::Layout::slot_bytes, space_model::specs::Layout::page_slots))]
+    #[test]
+    fn each_call_on_a_page_of_the_smallest_slots(rt: HostRuntime) -> Result<(), Fail> {
+        let alloc = rt.alloc();
+        let mut page = SlotPage::new(alloc)?;
+        let mut other = SlotPage::new(alloc)?;
+        page.set_word(5, 8);
+        page.slot_mut(0, 1).fill(7);
+        assert!(rt; page.slot(0, 1) == [7u64; 5].as_slice());
+        assert!(rt; page.word(4) == 0 && page.word(10) == 0);
+        page.copy_within(1637, 1, 0);
+        assert!(rt; page.word(8184) == 0 && page.word(8185) == 7);
+        assert!(rt; page.word(8189) == 7 && page.word(8190) == 0);
+        other.copy_slot(2, &page, 1637, 0);
+        assert!(rt; other.slot(0, 2) == page.slot(0, 1));
+        assert!(rt; other.word(9) == 0 && other.word(15) == 0);
+        Ok(())
     }
 }

@@ -1,4 +1,4 @@
-use Rattle.std.proofs.Common.{◌≡◌, ◌∙◌, ◌≤◌, ◌+◌, arith, rules, refl, length}
+use Rattle.std.proofs.Common.{◌≡◌, ◌∙◌, arith, rules, refl, length}
 use Rattle.space_pages.proofs.Writes.{copied}
 use Rattle.space_pages.proofs.page.SlotPage.copy_within.Goals as goal
 
