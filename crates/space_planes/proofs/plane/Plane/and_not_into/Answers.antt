@@ -1,4 +1,4 @@
-use Rattle.std.proofs.Common.{arith, rules, ◌&&◌, not}
+use Rattle.std.proofs.Common.{rules, ◌&&◌, not}
 use Rattle.space_planes.proofs.Zips.{zip_more}
 use Rattle.space_planes.proofs.plane.Plane.and_not_into.Goals as goal
 

@@ -1,4 +1,4 @@
-use Rattle.std.proofs.Common.{arith, rules, ◌||◌}
+use Rattle.std.proofs.Common.{rules, ◌||◌}
 use Rattle.space_planes.proofs.Zips.{zip_more}
 use Rattle.space_planes.proofs.plane.Plane.or_into.Goals as goal
 
