@@ -1,13 +1,13 @@
 -- The laws of slots, for the callers: what a slot holds once it, another one or a word was written.
-use Rattle.std.proofs.Common.{◌≡◌, ◌≢◌, ◌⊎◌, inl, inr, ℕ, ◌+◌, ◌-◌, ◌*◌, ◌<◌, ◌≤◌, List, length, drop, get_or, replicate, slice_set, arith, sym, ◌∙◌}
+use Rattle.std.proofs.Common.{◌≡◌, ◌≢◌, ◌⊎◌, inl, inr, ℕ, ◌+◌, ◌-◌, ◌*◌, ◌<◌, ◌≤◌, List, length, drop, get_or, replicate, slice_set, arith, refl, sym, ◌∙◌}
 use Rattle.std.proofs.Math.Nat.{mul-le-mul_left}
 use Rattle.std.proofs.Math.Seq.{take-set-lt}
 use Rattle.std.proofs.lemmas.Bool.{cases_order}
 use Rattle.std.specs.Simd.Lanes.{put_chunk}
-use Rattle.std.proofs.lemmas.List.{same_lists, get_or-set_other, length-set, drop-set-add, take-replicate, drop-replicate}
+use Rattle.std.proofs.lemmas.List.{same_lists, get_or-set_other, length-set, drop-set-add, length-replicate, take-replicate, drop-replicate}
 use Rattle.std.proofs.lemmas.Simd.{length-put_chunk, length-chunk, get_or-chunk, get_or-put_chunk_at, get_or-put_chunk_below, get_or-put_chunk_above}
 use Rattle.space_model.specs.Layout.{page_slots}
-use Rattle.space_pages.specs.Slots.{words_of, slot_words, with_slot}
+use Rattle.space_pages.specs.Slots.{blank_page, words_of, slot_words, with_slot}
 use Rattle.space_pages.proofs.Fits.{slot_fits}
 
 pub length-with_slot : (page : List ℕ) (pool slot : ℕ) (words : List ℕ) → length (with_slot page pool slot words) ≡ length page
@@ -79,3 +79,12 @@ pub slot_words-replicate : (n pool slot word : ℕ) → n ≡ 8192 → pool < 5 
 slot_words-replicate n pool slot word whole known within =
     let fits = slot_fits pool slot known within in
     rw (drop-replicate (words_of pool * slot) n word) (take-replicate (words_of pool) (n - words_of pool * slot) word (omega arith))
+
+pub length-blank_page : length blank_page ≡ 8192
+unfolding blank_page
+length-blank_page = length-replicate {A = ℕ} 8192 0
+
+-- a new page's slots have only words that are 0
+pub slot_words-blank_page : (pool slot : ℕ) → pool < 5 → slot < page_slots pool → slot_words blank_page pool slot ≡ replicate (words_of pool) 0
+unfolding blank_page
+slot_words-blank_page pool slot known within = slot_words-replicate 8192 pool slot 0 refl known within

@@ -1,8 +1,8 @@
 // The words of a page, and its slots.
-ghost use Rattle.std.specs.Prelude.{◌≡◌, ◌+◌, ◌*◌, ◌<◌, ◌≤◌, length, replicate, slice_index, slice_set, IfOk};
+ghost use Rattle.std.specs.Prelude.{◌≡◌, ◌+◌, ◌*◌, ◌<◌, ◌≤◌, length, slice_index, slice_set, IfOk};
 ghost use Rattle.std.specs.Borrow.{sem};
 ghost use Rattle.space_model.specs.Layout.{page_slots as slots_of_page};
-ghost use Rattle.space_pages.specs.Slots.{words_of, slot_words, with_slot};
+ghost use Rattle.space_pages.specs.Slots.{blank_page, words_of, slot_words, with_slot};
 ghost use Rattle.space_pages.specs.Lending.{LendsSlot};
 
 use space_model::{POOLS, slot_bytes};
@@ -47,9 +47,10 @@ fn slot_start(pool: u8, s: u32) -> usize
 }
 
 impl SlotPage {
+    #[tactic(auto, unfolding(crate::specs::Slots::blank_page))]
     /// A page whose words are all 0. No other call takes memory.
     pub fn new(alloc: Global) -> Result<SlotPage, NoMemory>
-        ensures { IfOk result (λ page. page ≡ replicate PAGE_WORDS 0) }
+        ensures { IfOk result (λ page. page ≡ blank_page) }
     {
         Ok(SlotPage {
             words: Vec::from_elem(alloc, 0, PAGE_WORDS)?,

@@ -106,7 +106,8 @@ impl Plane {
     pub fn and_not_into(&self, other: &Plane, out: &mut Plane)
         requires other_len { length other.now ≡ length self.now }
         requires out_len { length out.old ≡ length self.now }
-        ensures { out.new ≡ set_in_first_only self.now other.now }
+        ensures bits { out.new ≡ set_in_first_only self.now other.now }
+        ensures len { length out.new ≡ length self.now }
     {
         for i in 0..self.bits.len() {
             out.bits[i] = self.bits[i] & !other.bits[i];
@@ -117,7 +118,8 @@ impl Plane {
     pub fn and_into(&self, other: &Plane, out: &mut Plane)
         requires other_len { length other.now ≡ length self.now }
         requires out_len { length out.old ≡ length self.now }
-        ensures { out.new ≡ set_in_both self.now other.now }
+        ensures bits { out.new ≡ set_in_both self.now other.now }
+        ensures len { length out.new ≡ length self.now }
     {
         for i in 0..self.bits.len() {
             out.bits[i] = self.bits[i] & other.bits[i];
@@ -128,7 +130,8 @@ impl Plane {
     pub fn or_into(&self, other: &Plane, out: &mut Plane)
         requires other_len { length other.now ≡ length self.now }
         requires out_len { length out.old ≡ length self.now }
-        ensures { out.new ≡ set_in_either self.now other.now }
+        ensures bits { out.new ≡ set_in_either self.now other.now }
+        ensures len { length out.new ≡ length self.now }
     {
         for i in 0..self.bits.len() {
             out.bits[i] = self.bits[i] | other.bits[i];
