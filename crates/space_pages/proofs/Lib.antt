@@ -1,0 +1,3 @@
+mod Fits
+mod Writes
+pub mod SlotLaws
