@@ -75,6 +75,5 @@ pub fn write_malformed<K: Sink>(number: u64, sink: &mut K) -> Result<(), WriteFa
     put(&mut line, b"line ");
     put_decimal(&mut line, number);
     put(&mut line, b": malformed");
-    line.push(LF);
-    write_all(sink, line.as_slice())
+    write_line(&mut line, sink)
 }
