@@ -5,7 +5,7 @@ use Rattle.std.specs.Str.{bytes_eq}
 use Rattle.space_model.specs.declared.value.Value.TheVariants.{Nil, Small, Name}
 use Rattle.space_model.specs.declared.event.Event.TheVariants.{Gone, Verdict}
 use Rattle.space_model.specs.declared.event.Kind.TheVariants.{Minor, Major, Full as FullKind}
-use Rattle.space_model.specs.declared.reply.Refusal.TheVariants.{NoRoot, NoWord, NotObject, NoField}
+use Rattle.space_model.specs.declared.reply.Refusal.TheVariants.{TooLarge, NoRoot, NoWord, NotObject, NoField}
 use Rattle.space_model.specs.declared.reply.Reply.TheVariants.{Made, Full, NoMemory, Done, Read, Truth, Refused}
 use Rattle.space_model.specs.Outputs.{Output, Told, Replied}
 use Rattle.space_model.specs.Lines.{lines_of}
@@ -39,7 +39,7 @@ forms n =
     ∷ Replied (Made (n 0) (n 1)) ∷ Replied Full ∷ Replied NoMemory ∷ Replied Done
     ∷ Replied (Read Nil) ∷ Replied (Read (Small (n 0))) ∷ Replied (Read (Name (n 0)))
     ∷ Replied (Truth true) ∷ Replied (Truth false)
-    ∷ Replied (Refused NoRoot) ∷ Replied (Refused NoWord) ∷ Replied (Refused NotObject) ∷ Replied (Refused NoField) ∷ []
+    ∷ Replied (Refused TooLarge) ∷ Replied (Refused NoRoot) ∷ Replied (Refused NoWord) ∷ Replied (Refused NotObject) ∷ Replied (Refused NoField) ∷ []
 
 abbrev pub pick : List Output → List Token → Option Output
 pick [] ts = None
@@ -57,7 +57,7 @@ clear : (o : Output) → IsClear o
 clear (Told (Verdict Minor gone)) = (refl, refl, refl, refl)
 clear (Replied (Read Nil)) = (refl, refl, refl, refl)
 clear (Replied (Truth true)) = (refl, refl, refl, refl)
-clear (Replied (Refused NoRoot)) = (refl, refl, refl, refl)
+clear (Replied (Refused TooLarge)) = (refl, refl, refl, refl)
 clear _ = (refl, refl, refl, refl)
 
 -- the reading of a text

@@ -15,7 +15,7 @@ use Rattle.space_model.specs.declared.object.Style.{Style}
 use Rattle.space_model.specs.declared.event.Event.{Event}
 use Rattle.space_model.specs.declared.reply.Refusal.{Refusal}
 use Rattle.space_model.specs.declared.reply.Reply.{Reply}
-use Rattle.space_model.specs.declared.reply.Reply.TheVariants.{Made, Full, NoMemory, Done, Read}
+use Rattle.space_model.specs.declared.reply.Reply.TheVariants.{Made, Full, NoMemory, Done, Read, Refused}
 use Rattle.space_model.specs.declared.value.Value.{Value}
 use Rattle.space_model.specs.declared.value.Value.TheVariants.{Name}
 use Rattle.space_model.specs.Answers.{WritesRoot, SetReply, LoadReply, StoreReply, field_value, written_field}
@@ -126,7 +126,8 @@ Sound-stored s t name index value there present small e h =
 new_sound : (s t : State) (root : List ℕ) (fields : ℕ) (guard : Guard) (style : Style) (reply : Reply) → NewReply s root fields guard style reply t → Sound s → Sound t
 new_sound s t root fields guard style (Made name address) e h = Sound-born s t root fields guard style address e.few e.place e.after h
 new_sound s t root fields guard style Full e h = subst Sound (sym e.unchanged) h
-new_sound s t root fields guard style NoMemory e h = subst Sound (sym e) h
+new_sound s t root fields guard style NoMemory e h = subst Sound (sym e.1) h
+new_sound s t root fields guard style (Refused why) e h = subst Sound (sym e.2) h
 new_sound s t root fields guard style _ e h = absurd e
 
 root_sound : (s t : State) (root : List ℕ) (value : Value) (answer reply : Reply) → IsPresentValue s.heap.place value → IsSmall value → WritesRoot s root value answer reply t → Sound s → Sound t

@@ -1,5 +1,5 @@
 -- How a command is spelled: its words with one space between two, numbers without leading zeros.
-use Rattle.std.specs.Prelude.{◌≡◌, ℕ, ◌<◌, ◌≤◌, ◌^◌, List, [], ◌∷◌, ◌++◌, codes}
+use Rattle.std.specs.Prelude.{◌≡◌, ℕ, ◌<◌, ◌^◌, List, [], ◌∷◌, ◌++◌, codes}
 use Rattle.space_model.specs.declared.command.Command.{Command}
 use Rattle.space_model.specs.declared.command.Command.TheVariants.{New, Set, Store, Load, Same}
 use Rattle.space_model.specs.declared.command.Input.{Input}
@@ -54,7 +54,7 @@ IsWritableInput (Small number) = number < 2 ^ 62
 
 -- the command is in the grammar
 abbrev pub IsWritable : Command → Type 0
-IsWritable (New root fields guard style) = IsIdent root × (fields ≤ 3) × (guard ≡ Protected) × (style ≡ Movable)
+IsWritable (New root fields guard style) = IsIdent root × (guard ≡ Protected) × (style ≡ Movable)
 IsWritable (Set root value) = IsIdent root × IsWritableInput value
 IsWritable (Store object index value) = IsWritableOperand object × (index < 2 ^ 64) × IsWritableInput value
 IsWritable (Load root object index) = IsIdent root × IsWritableOperand object × (index < 2 ^ 64)

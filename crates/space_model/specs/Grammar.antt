@@ -1,5 +1,5 @@
 -- The lines of a trace, and the commands that they are: one row a form. The language is this project's own.
-use Rattle.std.specs.Prelude.{◌≡◌, ℕ, ◌^◌, ◌<◌, ◌≤◌, ◌==◌, List, [], ◌∷◌, ◌++◌, length, codes, Option, None, Some}
+use Rattle.std.specs.Prelude.{◌≡◌, ℕ, ◌^◌, ◌<◌, ◌≤◌, ◌==◌, if◌then◌else◌, List, [], ◌∷◌, ◌++◌, length, codes, Option, None, Some}
 use Rattle.std.specs.Option.{option_to_list}
 use Rattle.std.specs.List.{slice_split}
 use Rattle.std.specs.Str.Parse.{AllDigits, digits_value}
@@ -13,6 +13,12 @@ use Rattle.space_model.specs.declared.object.Guard.TheVariants.{Protected}
 use Rattle.space_model.specs.declared.object.Style.TheVariants.{Movable}
 use Rattle.space_model.specs.Idents.{IsIdent}
 use Rattle.space_model.specs.Lines.{lines_of, MOST_BYTES}
+
+-- the line without one CR at its end
+abbrev pub without_cr : List ℕ → List ℕ
+without_cr [] = []
+without_cr (b ∷ []) = if b == 13 then [] else b ∷ []
+without_cr (b ∷ c ∷ line) = b ∷ without_cr (c ∷ line)
 
 -- the words of a line, cut at each space
 abbrev pub words_of : List ℕ → List (List ℕ)
@@ -40,7 +46,7 @@ IsInput word (Small number) = (digits : List ℕ) × (word ≡ 61 ∷ digits) ×
 -- the words are a command
 abbrev pub IsCommand : List (List ℕ) → Command → Type 0
 IsCommand words (New root fields guard style) =
-    (digits : List ℕ) × (words ≡ codes "new" ∷ root ∷ digits ∷ codes "P" ∷ codes "M" ∷ []) × IsIdent root × IsNumber digits fields × (fields ≤ 3) × (guard ≡ Protected) × (style ≡ Movable)
+    (digits : List ℕ) × (words ≡ codes "new" ∷ root ∷ digits ∷ codes "P" ∷ codes "M" ∷ []) × IsIdent root × IsNumber digits fields × (guard ≡ Protected) × (style ≡ Movable)
 IsCommand words (Set root value) =
     (v : List ℕ) × (words ≡ codes "set" ∷ root ∷ v ∷ []) × IsIdent root × IsInput v value
 IsCommand words (Store object index value) =
@@ -50,16 +56,17 @@ IsCommand words (Load root object index) =
 IsCommand words (Same left right) =
     (a : List ℕ) × (b : List ℕ) × (words ≡ codes "same" ∷ a ∷ b ∷ []) × IsOperand a left × IsOperand b right
 
--- a line that is no command and has no answer; there is none yet
+-- a line that is no command and has no answer: it is empty, or begins with `;`
 abbrev pub IsBlank : List ℕ → Type 0
-IsBlank line = ⊥
+IsBlank [] = Unit {0}
+IsBlank (b ∷ line) = b ≡ 59
 
--- what a line is: a command, or a blank
+-- what a line is, when one CR at its end is dropped: a command, or a blank
 abbrev pub IsReading : List ℕ → Option Command → Type 0
-IsReading line None = IsBlank line
-IsReading line (Some command) = IsCommand (words_of line) command
+IsReading line None = IsBlank (without_cr line)
+IsReading line (Some command) = IsCommand (words_of (without_cr line)) command
 
--- what the lines are, one after another
+-- what the lines are, one after another; a CR counts among the bytes of its line
 abbrev pub AreCommands : List (List ℕ) → List Command → Type 0
 AreCommands [] commands = commands ≡ []
 AreCommands (line ∷ lines) commands =

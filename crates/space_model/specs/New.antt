@@ -1,10 +1,11 @@
 -- Where a new object stands, and what `new` replies. The order in which a slot is looked for is this project's own.
-use Rattle.std.specs.Prelude.{◌≡◌, ◌⊎◌, ℕ, ◌+◌, ◌≤◌, List, [], length}
+use Rattle.std.specs.Prelude.{◌≡◌, ◌⊎◌, ℕ, ◌+◌, ◌≤◌, ◌<◌, List, [], length}
 use Rattle.space_model.specs.declared.event.Event.{Event}
 use Rattle.space_model.specs.declared.object.Guard.{Guard}
 use Rattle.space_model.specs.declared.object.Style.{Style}
+use Rattle.space_model.specs.declared.reply.Refusal.TheVariants.{TooLarge}
 use Rattle.space_model.specs.declared.reply.Reply.{Reply}
-use Rattle.space_model.specs.declared.reply.Reply.TheVariants.{Made, Full, NoMemory}
+use Rattle.space_model.specs.declared.reply.Reply.TheVariants.{Made, Full, NoMemory, Refused}
 use Rattle.space_model.specs.Layout.{pool_for, slot_address}
 use Rattle.space_model.specs.Pieces.{Born}
 use Rattle.space_model.specs.Places.{IsNewAt, IsPoolFull, HasNoSpare, IsFreshPage}
@@ -40,11 +41,12 @@ pub record MakesNone (s : State) (fields : ℕ) (t : State) : Type 0 where
   pub limit : IsAtLimit s (pool_for fields)
   pub unchanged : t ≡ s
 
--- the reply of `new`; want of memory leaves the state as it was
+-- the reply of `new`; a refusal, and want of memory, leave the state as it was
 abbrev pub NewReply : State → List ℕ → ℕ → Guard → Style → Reply → State → Type 0
 NewReply s root fields guard style (Made name address) t = Makes s root fields guard style name address t
 NewReply s root fields guard style Full t = MakesNone s fields t
-NewReply s root fields guard style NoMemory t = t ≡ s
+NewReply s root fields guard style NoMemory t = (fields ≤ 78) × (t ≡ s)
+NewReply s root fields guard style (Refused why) t = (78 < fields) × (why ≡ TooLarge) × (t ≡ s)
 NewReply s root fields guard style _ t = ⊥
 
 -- `new`: there are no events, until it collects

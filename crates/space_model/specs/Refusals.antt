@@ -1,10 +1,11 @@
 -- How refusals are found: over all operands, and by one order, never from left to right.
 use Rattle.std.specs.Prelude.{ℕ, nat_le, if◌then◌else◌, Result, Ok, Err}
 use Rattle.space_model.specs.declared.reply.Refusal.{Refusal}
-use Rattle.space_model.specs.declared.reply.Refusal.TheVariants.{NoRoot, NoWord, NotObject, NoField}
+use Rattle.space_model.specs.declared.reply.Refusal.TheVariants.{TooLarge, NoRoot, NoWord, NotObject, NoField}
 
 -- the place of a refusal in the one order
 abbrev pub rank : Refusal → ℕ
+rank TooLarge = 0
 rank NoRoot = 1
 rank NoWord = 2
 rank NotObject = 3

@@ -6,7 +6,7 @@ use Rattle.space_model.specs.declared.event.Event.TheVariants.{Gone, Verdict}
 use Rattle.space_model.specs.declared.event.Kind.{Kind}
 use Rattle.space_model.specs.declared.event.Kind.TheVariants.{Minor, Major, Full as FullKind}
 use Rattle.space_model.specs.declared.reply.Refusal.{Refusal}
-use Rattle.space_model.specs.declared.reply.Refusal.TheVariants.{NoRoot, NoWord, NotObject, NoField}
+use Rattle.space_model.specs.declared.reply.Refusal.TheVariants.{TooLarge, NoRoot, NoWord, NotObject, NoField}
 use Rattle.space_model.specs.declared.reply.Reply.{Reply}
 use Rattle.space_model.specs.declared.reply.Reply.TheVariants.{Made, Full, NoMemory, Done, Read, Truth, Refused}
 use Rattle.space_model.specs.declared.value.Value.{Value}
@@ -29,6 +29,7 @@ value_pieces (Small number) = Say (codes "=") ∷ Number number ∷ []
 value_pieces (Name name) = Say (codes "#") ∷ Number name ∷ []
 
 abbrev pub refusal_text : Refusal → List ℕ
+refusal_text TooLarge = codes "error too large"
 refusal_text NoRoot = codes "error no root"
 refusal_text NoWord = codes "error no word"
 refusal_text NotObject = codes "error not an object"

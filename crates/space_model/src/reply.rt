@@ -4,6 +4,8 @@ use crate::Value;
 /// Why a command was refused. The refusal that stands first here is the answer, where several apply.
 #[derive(Clone, Copy, Debug, PartialEq, Eq)]
 pub enum Refusal {
+    /// An object can't have so many fields.
+    TooLarge,
     /// An operand is no root.
     NoRoot,
     /// The stack has no word at that place.

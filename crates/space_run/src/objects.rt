@@ -5,7 +5,7 @@ ghost use Rattle.space_model.specs.Operands.{field_in};
 ghost use Rattle.space_model.specs.Pieces.{new_item, item_stored};
 ghost use Rattle.space_run.specs.Objects.{item_of_object, items_of};
 
-use space_model::{Guard, Refusal, Style, Value};
+use space_model::{Guard, MOST_FIELDS, Refusal, Style, Value};
 use std::alloc::{AllocError as NoMemory, Global};
 
 /// An object: its guard, its style and its fields.
@@ -23,7 +23,7 @@ pub fn make_object(
     guard: Guard,
     style: Style,
 ) -> Result<Object, NoMemory>
-    requires { fields ≤ 3 }
+    requires { fields ≤ MOST_FIELDS }
     ensures { IfOk result (λ object. item_of_object object ≡ new_item guard style fields) }
 {
     let values = vec![in alloc; Value::Nil; fields as usize]?;

@@ -11,6 +11,7 @@ fn rank(why: Refusal) -> u8
     ensures { result ≡ rank_of why }
 {
     match why {
+        Refusal::TooLarge => 0,
         Refusal::NoRoot => 1,
         Refusal::NoWord => 2,
         Refusal::NotObject => 3,

@@ -1,3 +1,4 @@
+pub mod CrLemmas
 pub mod WordLemmas
 pub mod NumberLemmas
 pub mod InputLemmas

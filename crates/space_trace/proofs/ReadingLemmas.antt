@@ -2,7 +2,7 @@
 use Rattle.std.proofs.Common.{◌≡◌, ℕ, ◌==◌, if◌then◌else◌, Bool, false, true, List, [], ◌∷◌, codes, drop, Option, None, Some, IsTrue, refl, ap, sym, subst, ◌∙◌}
 use Rattle.std.proofs.lemmas.Bool.{ne_eqb}
 use Rattle.std.proofs.lemmas.Slice.Eq.{bytes_eq-Decides}
-use Rattle.std.specs.List.{slice_index}
+use Rattle.std.specs.List.{slice_index, onto_first}
 use Rattle.std.specs.Str.{bytes_eq}
 use Rattle.std.specs.Str.Parse.{digits_value}
 use Rattle.space_model.specs.declared.command.Command.{Command}
@@ -13,7 +13,7 @@ use Rattle.space_model.specs.declared.command.Operand.{Operand}
 use Rattle.space_model.specs.declared.command.Operand.TheVariants.{Root, Word}
 use Rattle.space_model.specs.declared.object.Guard.TheVariants.{Protected}
 use Rattle.space_model.specs.declared.object.Style.TheVariants.{Movable}
-use Rattle.space_model.specs.Grammar.{IsOperand, IsInput, IsCommand, IsReading, AreCommands, Commands, words_of}
+use Rattle.space_model.specs.Grammar.{IsOperand, IsInput, IsCommand, IsBlank, IsReading, AreCommands, Commands, words_of, without_cr}
 use Rattle.space_model.specs.Idents.{IsIdent, is_first_byte}
 use Rattle.space_model.specs.Lines.{lines_of}
 use Rattle.space_model.specs.CommandTexts.{command_pieces, command_text, IsWritable}
@@ -86,15 +86,24 @@ input_is word (Small number) h = rw h.1 (ap Small (sym h.2.value))
 
 -- the command that words are is the one that is found
 pub command_is : (words : List (List ℕ)) (command : Command) → IsCommand words command → command_of words ≡ Some command
-command_is words (New root fields guard style) h = rw (h.1, h.3.value, h.5, h.6) refl
+command_is words (New root fields guard style) h = rw (h.1, h.3.value, h.4, h.5) refl
 command_is words (Set root value) h = rw (h.1, input_is h.0 value h.3) refl
 command_is words (Store object index value) h = rw (h.3, operand_is h.0 object h.4, h.5.value, input_is h.2 value h.6) refl
 command_is words (Load root object index) h = rw (h.2, operand_is h.0 object h.4, h.5.value) refl
 command_is words (Same left right) h = rw (h.2, operand_is h.0 left h.3, operand_is h.1 right h.4) refl
 
-pub reading_is : (line : List ℕ) (found : Option Command) → IsReading line found → command_of (words_of line) ≡ found
-reading_is line None h = absurd h
-reading_is line (Some command) h = command_is (words_of line) command h
+-- a blank has no words of a command
+comment_is : (words : List (List ℕ)) → command_of (onto_first 59 words) ≡ None
+comment_is [] = refl
+comment_is (word ∷ words) = refl
+
+blank_is : (line : List ℕ) → IsBlank line → command_of (words_of line) ≡ None
+blank_is [] h = refl
+blank_is (b ∷ line) h = rw h (comment_is (words_of line))
+
+pub reading_is : (line : List ℕ) (found : Option Command) → IsReading line found → command_of (words_of (without_cr line)) ≡ found
+reading_is line None h = blank_is (without_cr line) h
+reading_is line (Some command) h = command_is (words_of (without_cr line)) command h
 
 pub readings_same : (line : List ℕ) (a b : Option Command) → IsReading line a → IsReading line b → a ≡ b
 readings_same line a b h k = sym (reading_is line a h) ∙ reading_is line b k

@@ -7,16 +7,13 @@ use crate::numbers::read_number;
 use crate::words::{four_words, three_words, two_words};
 use space_model::{Command, Guard, Ident, Style};
 
-/// The most fields that a line may ask for.
-const MOST_FIELDS: u64 = 3;
-
 fn read_new(rest: Option<&[u8]>) -> Option<Command>
     ensures { ReadsWords (codes "new" ∷ words_in rest.entry) result }
 {
     let (root, fields, guard, style) = four_words(rest)?;
     let root = Ident::read(root)?;
     let fields = read_number(fields)?;
-    if fields > MOST_FIELDS || guard != b"P".as_slice() || style != b"M".as_slice() {
+    if guard != b"P".as_slice() || style != b"M".as_slice() {
         return None;
     }
     Some(Command::New {

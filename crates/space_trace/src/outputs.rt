@@ -63,6 +63,7 @@ fn refusal_bytes(why: Refusal) -> &'static [u8]
     ensures len { length result.now ≤ 40 }
 {
     match why {
+        Refusal::TooLarge => b"error too large",
         Refusal::NoRoot => b"error no root",
         Refusal::NoWord => b"error no word",
         Refusal::NotObject => b"error not an object",

@@ -1,7 +1,7 @@
 // Reads the lines of a trace.
-ghost use Rattle.std.specs.Prelude.{◌≡◌, Option, IfOk, OnErr};
+ghost use Rattle.std.specs.Prelude.{◌≡◌, ◌↔◌, Option, IsTrue, IfOk, OnErr};
 ghost use Rattle.space_model.specs.declared.command.Command.{Command as TheCommand};
-ghost use Rattle.space_model.specs.Grammar.{IsReading};
+ghost use Rattle.space_model.specs.Grammar.{without_cr, IsBlank, IsReading};
 
 use crate::forms::read_words;
 use crate::words::next_word;
@@ -11,11 +11,38 @@ use space_model::Command;
 #[derive(Clone, Copy, Debug, PartialEq, Eq)]
 pub struct Malformed;
 
-/// The command of a line without its LF. `None` is a line that is lawful and has no command; there is no such line yet.
+// The line without one CR at its end.
+fn drop_cr(line: &[u8]) -> &[u8]
+    ensures { result.now ≡ without_cr line.now }
+{
+    if let Some((last, rest)) = line.split_last() {
+        if *last == b'\r' {
+            return rest;
+        }
+    }
+    line
+}
+
+// Whether the line is empty, or begins with `;`.
+fn is_blank(line: &[u8]) -> bool
+    ensures { IsTrue result ↔ IsBlank line.now }
+{
+    match line.split_first() {
+        Some((first, _)) => *first == b';',
+        None => true,
+    }
+}
+
+/// The command of a line without its LF. `None` is an empty line or one that begins with `;`: it is lawful, and has no
+/// command. One CR at the end of the line is dropped first.
 pub fn read_command(line: &[u8]) -> Result<Option<Command>, Malformed>
     ensures found { IfOk result (λ found. IsReading line.now found) }
     ensures malformed { OnErr result ((found : Option TheCommand) → IsReading line.now found → ⊥) }
 {
+    let line = drop_cr(line);
+    if is_blank(line) {
+        return Ok(None);
+    }
     let Some((name, rest)) = next_word(Some(line)) else {
         return Err(Malformed);
     };

@@ -6,8 +6,13 @@ use std::alloc::{AllocError as NoMemory, Global};
 use std::test::Fail;
 
 // The line, and how its command is spelled.
-const FORMS: [(&[u8], &[u8]); 9] = [
+const FORMS: [(&[u8], &[u8]); 12] = [
     (b"new a 3 P M", b"new a 3 P M\n"),
+    (b"new a 79 P M", b"new a 79 P M\n"),
+    (
+        b"new a 18446744073709551615 P M",
+        b"new a 18446744073709551615 P M\n",
+    ),
     (b"new Ab_9 000 P M", b"new Ab_9 0 P M\n"),
     (b"set _a b", b"set _a b\n"),
     (b"set a nil", b"set a nil\n"),
@@ -22,22 +27,28 @@ const FORMS: [(&[u8], &[u8]); 9] = [
     ),
     (b"load a b 10", b"load a b 10\n"),
     (b"same a b", b"same a b\n"),
+    (b"same a b\r", b"same a b\n"),
 ];
 
-const MALFORMED: [&[u8]; 24] = [
-    b"",
-    b"; a comment",
+// Lines without a command.
+const BLANK: [&[u8]; 5] = [b"", b"\r", b";", b"; a comment", b";same a b\r"];
+
+const MALFORMED: [&[u8]; 25] = [
+    b" ",
+    b" ; a comment",
+    b"\r\r",
+    b"\r;",
     b" same a b",
     b"same a b ",
     b"same  a b",
-    b"same a b\r",
+    b"same a b\r\r",
+    b"same a\r b",
     b"same a",
     b"same a b c",
     b"same @0 b",
     b"Same a b",
     b"new a 3 U M",
     b"new a 3 P K",
-    b"new a 4 P M",
     b"new a 000000000000000000001 P M",
     b"new a 0x1 P M",
     b"new nil 1 P M",
@@ -76,7 +87,7 @@ const EVENTS: [(Event, &[u8]); 4] = [
     ),
 ];
 
-const REPLIES: [(Reply, &[u8]); 15] = [
+const REPLIES: [(Reply, &[u8]); 16] = [
     (
         Reply::Made {
             name: 1,
@@ -118,6 +129,12 @@ const REPLIES: [(Reply, &[u8]); 15] = [
     (Reply::Truth { yes: false }, b"false\n"),
     (
         Reply::Refused {
+            why: Refusal::TooLarge,
+        },
+        b"error too large\n",
+    ),
+    (
+        Reply::Refused {
             why: Refusal::NoRoot,
         },
         b"error no root\n",
@@ -156,6 +173,16 @@ fn forms_are_read_and_written(rt: HostRuntime) -> Result<(), Fail> {
         };
         assert!(rt; write_command(&command, &mut sink).is_ok());
         assert!(rt; sink.bytes() == spelling);
+    }
+    Ok(())
+}
+
+#[test]
+fn blank_lines_have_no_command(rt: HostRuntime) -> Result<(), Fail> {
+    for line in BLANK {
+        let Ok(None) = read_command(line) else {
+            return Err(Fail::from("a line is no blank"));
+        };
     }
     Ok(())
 }

@@ -71,10 +71,9 @@ pub fn write_malformed<K: Sink>(number: u64, sink: &mut K) -> Result<(), WriteFa
     ensures prefix { AppendsPrefix (K.written sink.old) (K.written sink.new) (line_of_pieces (malformed_pieces number)) }
     ensures cause { HasCause (K.faults sink.old) (K.faults sink.new) result }
 {
-    let mut last = Line::new();
-    put(&mut last, b"line ");
-    put_decimal(&mut last, number);
-    put(&mut last, b": malformed");
-    last.push(LF);
-    write_all(sink, last.as_slice())
+    let mut line = Line::new();
+    put(&mut line, b"line ");
+    put_decimal(&mut line, number);
+    put(&mut line, b": malformed");
+    write_line(&mut line, sink)
 }
