@@ -1,35 +1,55 @@
--- The addresses of slots over all pages of the first pool.
-use Rattle.std.proofs.Common.{◌≡◌, ℕ, ◌+◌, ◌*◌, ◌/◌, ◌%◌, ◌<◌, ◌≤◌, refl, sym, ◌∙◌, arith}
-use Rattle.std.proofs.lemmas.Bool.Decides.{nat_tests}
-use Rattle.space_model.specs.Layout.{slot_address, slot_bytes, page_slots, pool_for}
-use Rattle.space_run.specs.Stands.{address_at}
+-- The addresses of slots.
+use Rattle.std.proofs.Common.{◌≡◌, ◌⊎◌, ℕ, ◌+◌, ◌*◌, ◌<◌, ◌≤◌, nat_lt, arith, ⊎_elim, inl, inr}
+use Rattle.std.proofs.lemmas.Bool.{cases_Bool}
+use Rattle.std.proofs.lemmas.Bool.Decides.{eqb_tells, nat_tests}
+use Rattle.std.proofs.lemmas.Nat.{pow_pos}
+use Rattle.space_model.specs.Layout.{slot_address, slot_bytes, page_slots}
 
-pub first_slots : page_slots 0 ≡ 1638
-unfolding page_slots slot_bytes
-first_slots = refl
-
--- objects with three fields at most are in the first pool
-pub first_pool : (fields : ℕ) → fields ≤ 3 → pool_for fields ≡ 0
-unfolding pool_for
-first_pool fields few = grind (arith, nat_tests)
-
-slot_address-first : (page slot : ℕ) → slot_address page 0 slot ≡ 65536 * (page + 1) + 40 * slot
+-- slots of a page rise
+pub slot_address-rises : (page pool slot other : ℕ) → slot ≤ other → slot_address page pool slot ≤ slot_address page pool other
 unfolding slot_address slot_bytes
-slot_address-first page slot = refl
+slot_address-rises page pool slot other le = grind arith
 
-address_at-is : (k : ℕ) → address_at k ≡ 65536 * (k / 1638 + 1) + 40 * (k % 1638)
-address_at-is k = slot_address-first (k / 1638) (k % 1638)
+-- a slot is on its page
+slot_address-from : (page pool slot : ℕ) → 65536 * (page + 1) ≤ slot_address page pool slot
+unfolding slot_address slot_bytes
+slot_address-from page pool slot = grind arith
 
-pub address_at-injective : (j k : ℕ) → address_at j ≡ address_at k → j ≡ k
-address_at-injective j k e =
-    let f : 65536 * (j / 1638 + 1) + 40 * (j % 1638) ≡ 65536 * (k / 1638 + 1) + 40 * (k % 1638) = sym (address_at-is j) ∙ e ∙ address_at-is k in
+slot_address-below : (page pool slot : ℕ) → slot < page_slots pool → slot_address page pool slot < 65536 * (page + 2)
+unfolding slot_address slot_bytes page_slots
+slot_address-below page pool slot lt = grind arith
+
+-- pages rise
+pub slot_address-later : (page later pool slot other : ℕ) → slot < page_slots pool → page < later → slot_address page pool slot ≤ slot_address later pool other
+slot_address-later page later pool slot other lt before =
+    let a = slot_address-below page pool slot lt in
+    let b = slot_address-from later pool other in
     omega arith
 
-pub address_at-rises : (j k : ℕ) → j ≤ k → address_at j ≤ address_at k
-address_at-rises j k le = let a = address_at-is j in let b = address_at-is k in omega arith
+some_bytes : (pool : ℕ) → 0 < slot_bytes pool
+unfolding slot_bytes
+some_bytes pool = let some = pow_pos pool in omega arith
 
-pub address_at-slot : (page slot : ℕ) → slot < 1638 → slot_address page 0 slot ≡ address_at (page * 1638 + slot)
-address_at-slot page slot lt = let a = slot_address-first page slot in let b = address_at-is (page * 1638 + slot) in omega arith
+next_slot : (page pool slot : ℕ) → slot_address page pool (slot + 1) ≡ slot_address page pool slot + slot_bytes pool
+unfolding slot_address
+next_slot page pool slot = grind arith
 
-pub address_at-first : (page : ℕ) → address_at (1638 * page) ≡ slot_address page 0 0
-address_at-first page = let a = slot_address-first page 0 in let b = address_at-is (1638 * page) in omega arith
+slot_address-less : (page pool slot other : ℕ) → slot < other → slot_address page pool slot < slot_address page pool other
+slot_address-less page pool slot other lt =
+    let next = next_slot page pool slot in
+    let some = some_bytes pool in
+    let later = slot_address-rises page pool (slot + 1) other (omega arith) in
+    omega arith
+
+-- a slot is known by its address
+pub slot-from_address : (page pool slot other : ℕ) → slot_address page pool slot ≡ slot_address page pool other → slot ≡ other
+slot-from_address page pool slot other e = ⊎_elim
+    (λ same. same.1)
+    (λ apart. ⊎_elim
+    (λ below. absurd (let less = slot_address-less page pool slot other below in omega arith))
+    (λ above. absurd (let less = slot_address-less page pool other slot (omega (arith, apart.1)) in omega arith))
+    (less_cases slot other))
+    (eqb_tells slot other)
+  where
+    less_cases : (a b : ℕ) → (a < b) ⊎ (b ≤ a)
+    less_cases a b = ⊎_elim (λ t. inl (grind (arith, nat_tests, t))) (λ f. inr (grind (arith, nat_tests, f))) (cases_Bool (nat_lt a b))

@@ -1,5 +1,5 @@
 -- The answers of commands, over a space and the states that it stands for.
-use Rattle.std.proofs.Common.{◌≡◌, ℕ, List, [], ◌∷◌, refl, ap, sym, inl, inr, None, Result, Ok, Err, length, length-set}
+use Rattle.std.proofs.Common.{◌≡◌, ◌<◌, ◌≤◌, ℕ, List, [], ◌∷◌, refl, ap, sym, inl, inr, None, Result, Ok, Err, length, length-set}
 use Rattle.std.specs.Ordering.{nat_cmp}
 use Rattle.std.specs.FinMap.{FinMap}
 use Rattle.space_model.specs.declared.command.Command.{Command}
@@ -9,6 +9,7 @@ use Rattle.space_model.specs.declared.command.Operand.{Operand}
 use Rattle.space_model.specs.declared.object.Guard.{Guard}
 use Rattle.space_model.specs.declared.object.Style.{Style}
 use Rattle.space_model.specs.declared.reply.Refusal.{Refusal}
+use Rattle.space_model.specs.declared.reply.Refusal.TheVariants.{TooLarge}
 use Rattle.space_model.specs.declared.reply.Reply.{Reply}
 use Rattle.space_model.specs.declared.reply.Reply.TheVariants.{NoMemory, Done, Read, Refused}
 use Rattle.space_model.specs.declared.value.Value.{Value}
@@ -24,8 +25,12 @@ use Rattle.space_run.specs.Steps.{Answers}
 use Rattle.space_run.specs.Views.{View, with_root_written, with_field}
 
 -- nothing was made, since memory was lacking
-pub not_made : (v : View) (s : State) (root : List ℕ) (fields : ℕ) (guard : Guard) (style : Style) → Represents v s → Answers s v (New root fields guard style) NoMemory
-not_made v s root fields guard style h = record { state = s; represents = h; effects = (refl, refl) }
+pub not_made : (v : View) (s : State) (root : List ℕ) (fields : ℕ) (guard : Guard) (style : Style) → fields ≤ 78 → Represents v s → Answers s v (New root fields guard style) NoMemory
+not_made v s root fields guard style few h = record { state = s; represents = h; effects = (refl, (few, refl)) }
+
+-- an object can't have so many fields
+pub too_large : (v : View) (s : State) (root : List ℕ) (fields : ℕ) (guard : Guard) (style : Style) → 78 < fields → Represents v s → Answers s v (New root fields guard style) (Refused TooLarge)
+too_large v s root fields guard style many h = record { state = s; represents = h; effects = (refl, (many, refl, refl)) }
 
 module _ (v : View) (s : State) (h : Represents v s) where
   -- the state after a root was written
@@ -36,6 +41,9 @@ module _ (v : View) (s : State) (h : Represents v s) where
     pages = h.pages;
     limit = h.limit;
     place = h.place;
+    count = h.count;
+    used = h.used;
+    are_pages = h.are_pages;
     untouched = record { stack = h.untouched.stack; corpses = h.untouched.corpses; left = h.untouched.left; unswept = h.untouched.unswept };
   }
 
@@ -46,7 +54,10 @@ module _ (v : View) (s : State) (h : Represents v s) where
     roots = h.roots;
     pages = h.pages;
     limit = h.limit;
-    place = rw length-set h.place;
+    place = h.place;
+    count = rw length-set h.count;
+    used = h.used;
+    are_pages = h.are_pages;
     untouched = record { stack = h.untouched.stack; corpses = h.untouched.corpses; left = h.untouched.left; unswept = h.untouched.unswept };
   }
 

@@ -1,5 +1,5 @@
 -- Fields of objects, as the list of objects has them.
-use Rattle.std.proofs.Common.{◌≡◌, ◌-◌, ◌<◌, ◌≤◌, ℕ, List, [], length, get_or, set, map, refl, ap, ◌∙◌, sym, arith, Some, None, Result, Ok, Err}
+use Rattle.std.proofs.Common.{◌≡◌, ◌-◌, ◌<◌, ◌≤◌, ℕ, zero, suc, List, [], ◌∷◌, length, get_or, set, map, refl, ap, ◌∙◌, sym, arith, Some, None, Result, Ok, Err}
 use Rattle.std.specs.Prelude.{Vec, slice_get}
 use Rattle.std.specs.declared.alloc.Global.{Global}
 use Rattle.std.proofs.lemmas.Grind.{common_steps}
@@ -12,7 +12,7 @@ use Rattle.space_model.specs.Graph.{Item, no_item, item_of}
 use Rattle.space_model.specs.Operands.{field_in}
 use Rattle.space_model.specs.Pieces.{item_stored}
 use Rattle.space_run.specs.declared.objects.Object.{Object}
-use Rattle.space_run.specs.Objects.{item_of_object, items_of}
+use Rattle.space_run.specs.Objects.{item_of_object, items_of, places_of}
 
 get_or-past : (items : List Item) (place : ℕ) → length items ≤ place → get_or items place no_item ≡ no_item
 get_or-past items place beyond = grind (arith, common_steps)
@@ -40,6 +40,17 @@ pub object_there : (objects : List Object) (name index : ℕ) → index < length
 object_there objects name index lt = grind (arith, common_steps)
 
 pub field_written : (objects : List Object) (name place index : ℕ) (object : Object) (value : Value) (values : Vec Value Global) → place ≡ name - 1 → place < length objects → object ≡ get_or objects place object → values.items ≡ set object.values.items index value →
-    items_of (set objects place (record { guard = object.guard; style = object.style; values = values })) ≡ set (items_of objects) (name - 1) (item_stored (item_of (items_of objects) name) index value)
+    items_of (set objects place (record { address = object.address; guard = object.guard; style = object.style; values = values })) ≡ set (items_of objects) (name - 1) (item_stored (item_of (items_of objects) name) index value)
 field_written objects name place index object value values e lt is v =
     map-set item_of_object objects place _ ∙ rw (v, item_here objects name place object e lt is, e) refl
+
+-- its place stays
+pub place_kept : (objects : List Object) (place : ℕ) (object : Object) (values : Vec Value Global) → place < length objects → object ≡ get_or objects place object →
+    places_of (set objects place (record { address = object.address; guard = object.guard; style = object.style; values = values })) ≡ places_of objects
+place_kept objects place object values lt is =
+    map-set (λ (o : Object). o.address) objects place _ ∙ ap (set (places_of objects) place) (ap (λ (o : Object). o.address) is ∙ sym (get_or-map (λ (o : Object). o.address) objects place object object.address lt)) ∙ set_back (places_of objects) place object.address
+  where
+    set_back : (places : List ℕ) (place other : ℕ) → set places place (get_or places place other) ≡ places
+    set_back [] place other = refl
+    set_back (p ∷ places) zero other = refl
+    set_back (p ∷ places) (suc place) other = ap (λ ps. p ∷ ps) (set_back places place other)

@@ -1,10 +1,13 @@
--- Objects that stand one after another.
-use Rattle.std.proofs.Common.{◌≡◌, ◌≢◌, ℕ, zero, suc, ◌+◌, ◌-◌, ◌*◌, ◌/◌, ◌%◌, ◌<◌, ◌≤◌, List, [], ◌∷◌, ◌++◌, length, length-append, replicate, set, Bool, true, false, nat_lt, cond, ap, ◌∙◌, sym, subst, refl, arith, Option, None, Some, ⊎_elim, inl, inr, rules}
+-- Objects that stand on pages, which are filled from their first slot on.
+use Rattle.std.proofs.Common.{◌≡◌, ◌≢◌, ℕ, zero, suc, ◌+◌, ◌-◌, ◌*◌, ◌<◌, ◌≤◌, List, [], ◌∷◌, ◌++◌, length, length-append, get_or, set, map, Bool, true, false, nat_lt, cond, ap, ◌∙◌, sym, subst, refl, arith, rules, Option, None, Some, ⊎_elim, inl, inr}
+use Rattle.std.specs.Prelude.{slice_get}
 use Rattle.std.specs.Ordering.{nat_cmp}
 use Rattle.std.specs.FinMap.{FinMap, get, insert, empty, gets, get-empty}
+use Rattle.std.proofs.lemmas.Bool.{cases_Bool}
 use Rattle.std.proofs.lemmas.Bool.Decides.{eqb_tells, nat_tests}
 use Rattle.std.proofs.lemmas.Grind.{common_steps}
-use Rattle.std.proofs.lemmas.List.{replicate_more, length-replicate, get_or-replicate}
+use Rattle.std.proofs.lemmas.List.{length-map, get_or-map, map-set, map-append}
+use Rattle.std.proofs.lemmas.Option.{slice_get-get_or, slice_get_cases, get_or_from_slice_get}
 use Rattle.space_model.specs.declared.command.Command.TheVariants.{New}
 use Rattle.space_model.specs.declared.object.Guard.{Guard}
 use Rattle.space_model.specs.declared.object.Style.{Style}
@@ -17,10 +20,13 @@ use Rattle.space_model.specs.Pieces.{born, new_item}
 use Rattle.space_model.specs.Places.{IsFree, IsNewAt, IsPoolFull, HasNoSpare}
 use Rattle.space_model.specs.State.{State}
 use Rattle.space_model.proofs.PageLaws.{page_of-slot_address}
-use Rattle.space_run.specs.Stands.{Represents, StandsInOrder, IsUntouched, HasRoom, address_at}
+use Rattle.space_run.specs.declared.pages.Page.{Page}
+use Rattle.space_run.specs.Filling.{ArePages, IsFullFor, HasRoomAt, HasPlace, no_page, used_at, filled}
+use Rattle.space_run.specs.Stands.{Represents, StandsInOrder, IsUsedSlot, AreUsed}
 use Rattle.space_run.specs.Steps.{Answers}
-use Rattle.space_run.specs.Views.{View, added}
-use Rattle.space_run.proofs.Addresses.{first_slots, first_pool, address_at-injective, address_at-rises, address_at-slot, address_at-first}
+use Rattle.space_run.specs.Views.{View, added, birth_address}
+use Rattle.space_run.proofs.Addresses.{slot_address-rises, slot_address-later, slot-from_address}
+use Rattle.space_run.proofs.FillLemmas.{page_found, used_found, IsFilledAt, is_filled, pools-filled, inside, has_room, filled_pages}
 
 get_here : (m : FinMap nat_cmp ℕ) (k v : ℕ) → get (insert m k v) k ≡ Some v
 get_here m k v = grind (gets, rules)
@@ -37,149 +43,227 @@ some_same a b e = cc
 not_below : (a b : ℕ) → (b < a → ⊥) → a ≤ b
 not_below a b h = omega arith
 
-pub none_placed : StandsInOrder empty 0
+pub none_placed : StandsInOrder empty []
 none_placed = record {
   has = λ k lt. absurd (omega arith);
   only = λ name address e. absurd (none_some _ (sym (get-empty nat_cmp name) ∙ e));
 }
 
-one_more_placed : (m : FinMap nat_cmp ℕ) (count : ℕ) → StandsInOrder m count → StandsInOrder (insert m (count + 1) (address_at count)) (count + 1)
-one_more_placed m count h = record {
+pub none_used : AreUsed [] []
+none_used = record { stand = λ k lt. absurd (omega arith); all = λ index slot page e. absurd (cc) }
+
+pub no_pages : ArePages []
+no_pages i page e = absurd (cc)
+
+long_more : (places : List ℕ) (address : ℕ) → length (places ++ address ∷ []) ≡ length places + 1
+long_more places address = omega (arith, length-append places (address ∷ []))
+
+at_more : (places : List ℕ) (address k : ℕ) → k < length places → get_or (places ++ address ∷ []) k 0 ≡ get_or places k 0
+at_more places address k lt = grind (arith, common_steps)
+
+at_end : (places : List ℕ) (address : ℕ) → get_or (places ++ address ∷ []) (length places) 0 ≡ address
+at_end places address = grind (arith, common_steps)
+
+one_more_placed : (m : FinMap nat_cmp ℕ) (places : List ℕ) (name address : ℕ) → name ≡ length places + 1 → StandsInOrder m places → StandsInOrder (insert m name address) (places ++ address ∷ [])
+one_more_placed m places name address e h = record {
   has = λ k lt.
+      let long = long_more places address in
       ⊎_elim
-      (λ same. subst (λ (j : ℕ). get (insert m (count + 1) (address_at count)) (j + 1) ≡ Some (address_at j)) (sym same.1) (get_here m (count + 1) (address_at count)))
-      (λ other. get_other m (count + 1) (address_at count) (k + 1) (λ e. other.1 (omega arith)) ∙ h.has k (omega (arith, other.1)))
-      (eqb_tells k count);
-  only = λ name address e.
+      (λ same. subst (λ (j : ℕ). get (insert m name address) (j + 1) ≡ Some (get_or (places ++ address ∷ []) j 0)) (sym same.1) (rw (at_end places address, ← e) (get_here m name address)))
+      (λ other. let before : k < length places = omega (arith, other.1, long) in
+      rw (at_more places address k before) (get_other m name address (k + 1) (λ f. other.1 (omega arith)) ∙ h.has k before))
+      (eqb_tells k (length places));
+  only = λ other there f.
+      let long = long_more places address in
       ⊎_elim
       (λ same.
-      let here : Some (address_at count) ≡ Some address = sym (get_here m (count + 1) (address_at count)) ∙ (rw same.1 at e) in
-      (count, omega arith, sym (some_same _ _ here)))
-      (λ other.
-      let k = h.only name address (sym (get_other m (count + 1) (address_at count) name other.1) ∙ e) in
-      (k.0, omega (arith, k.1), k.2))
-      (eqb_tells name (count + 1));
+      let here : Some address ≡ Some there = sym (get_here m name address) ∙ (rw same.1 at f) in
+      (length places, omega arith, sym (some_same _ _ here) ∙ sym (at_end places address)))
+      (λ apart.
+      let k = h.only other there (sym (get_other m name address other apart.1) ∙ f) in
+      (k.0, omega (arith, k.1, long), k.2 ∙ sym (at_more places address k.0 k.1)))
+      (eqb_tells other name);
 }
 
--- pages of the first pool
-
-set_same : {X : Type 0} (x : X) (n page : ℕ) → set (replicate n x) page x ≡ replicate n x
-set_same x zero page = refl
-set_same x (suc n) zero = refl
-set_same x (suc n) (suc page) = ap (λ xs. x ∷ xs) (set_same x n page)
-
-with_pool-here : (n page : ℕ) → page < n → with_pool (replicate n (Some 0)) page 0 ≡ replicate n (Some 0)
-unfolding with_pool
-with_pool-here n page lt =
-    let long : length (replicate {A = Option ℕ} n (Some 0)) ≡ n = length-replicate {A = Option ℕ} n (Some 0) in
-    let inside : nat_lt page (length (replicate {A = Option ℕ} n (Some 0))) ≡ true = grind (arith, nat_tests, long) in
-    rw inside (set_same {X = Option ℕ} (Some 0) n page)
-
-with_pool-next : (n page : ℕ) → page ≡ n → with_pool (replicate n (Some 0)) page 0 ≡ replicate (n + 1) (Some 0)
-unfolding with_pool
-with_pool-next n page e =
-    let long : length (replicate {A = Option ℕ} n (Some 0)) ≡ n = length-replicate {A = Option ℕ} n (Some 0) in
-    let outside : nat_lt page (length (replicate {A = Option ℕ} n (Some 0))) ≡ false = grind (arith, nat_tests, long) in
-    rw outside (replicate_more {X = Option ℕ} n (Some 0))
-
-inside_pages : (ps : List (Option ℕ)) (page : ℕ) → pool_at ps page ≡ Some 0 → page < length ps
-inside_pages ps page e = grind (arith, common_steps)
+-- one more slot is used
+one_more_used : (places : List ℕ) (pages : List Page) (page pool address : ℕ) → (f : IsFilledAt pages page pool) → address ≡ slot_address page pool (used_at pages page) → AreUsed places pages → AreUsed (places ++ address ∷ []) (filled pages page pool)
+one_more_used places pages page pool address f e h = record {
+  stand = λ k lt.
+      let long = long_more places address in
+      ⊎_elim
+      (λ same. record {
+        index = page;
+        slot = used_at pages page;
+        page = record { pool = pool; used = used_at pages page + 1 };
+        here = f.here;
+        used = omega arith;
+        is = ap (λ (j : ℕ). get_or (places ++ address ∷ []) j 0) same.1 ∙ at_end places address ∙ e;
+      })
+      (λ other. let before : k < length places = omega (arith, other.1, long) in
+      let stands = h.stand k before in
+      let more = f.stays stands.index stands.page stands.here in
+      let used = stands.used in
+      let grown = more.2 in
+      record {
+        index = stands.index;
+        slot = stands.slot;
+        page = more.0;
+        here = more.1;
+        used = omega arith;
+        is = at_more places address k before ∙ stands.is ∙ ap (λ q. slot_address stands.index q stands.slot) (sym more.3);
+      })
+      (eqb_tells k (length places));
+  all = λ index slot found here used.
+      let long = long_more places address in
+      ⊎_elim
+      (λ new. (length places, omega arith, at_end places address ∙ e ∙ ap (λ q. slot_address page q (used_at pages page)) new.1 ∙ ap (λ u. slot_address page found.pool u) new.2 ∙ ap (λ j. slot_address j found.pool slot) new.0))
+      (λ old. let k = h.all index slot old.0 old.1 old.2 in
+      (k.0, omega (arith, k.1, long), at_more places address k.0 k.1 ∙ k.2 ∙ ap (λ q. slot_address index q slot) old.3))
+      (f.only index found slot here used);
+}
 
 module _ (v : View) (s : State) (h : Represents v s) where
-  page_count : length s.heap.pages ≡ v.pages
-  page_count = ap length h.pages ∙ length-replicate {A = Option ℕ} v.pages (Some 0)
+  page_count : length s.heap.pages ≡ length v.pages
+  page_count = ap length h.pages ∙ rw length-map refl
 
-  page_known : (page : ℕ) → page < v.pages → pool_at s.heap.pages page ≡ Some 0
-  page_known page lt =
-      let pool : Option ℕ = Some 0 in
-      ap (λ ps. pool_at ps page) h.pages ∙ get_or-replicate v.pages page pool None lt
+  -- the pool of a page
+  pool_known : (i : ℕ) (page : Page) → slice_get v.pages i ≡ Some page → pool_at s.heap.pages i ≡ Some page.pool
+  pool_known i page e =
+      let lt = inside v.pages i page e in
+      ap (λ ps. pool_at ps i) h.pages ∙ get_or-map (λ (page : Page). Some page.pool) v.pages i page None lt ∙ ap (λ (page : Page). Some page.pool) (get_or_from_slice_get v.pages i page page e)
 
   no_spare : HasNoSpare s
-  no_spare page (below, none) = none_some 0 (sym none ∙ page_known page (let e = page_count in omega arith))
+  no_spare i (below, none) =
+      let there = page_found v.pages i (let e = page_count in omega arith) in
+      none_some _ (sym none ∙ pool_known i there.0 there.1)
 
-  -- the number of a free slot: no object stands there
-  free_slot : (address : ℕ) → IsFree s 0 address → (k : ℕ) × (k < 1638 * v.pages) × (length v.items ≤ k) × (address ≡ address_at k)
-  free_slot address free =
-      let page = inside_pages s.heap.pages free.at.page free.at.has_pool in
-      let slot : free.at.slot < 1638 = rw first_slots at free.at.on_page in
-      let count = page_count in
-      let is : address ≡ address_at (free.at.page * 1638 + free.at.slot) = free.at.is ∙ address_at-slot free.at.page free.at.slot slot in
-      let beyond : length v.items ≤ free.at.page * 1638 + free.at.slot = not_below _ _ (λ lt. free.no_place (free.at.page * 1638 + free.at.slot + 1) (h.place.has (free.at.page * 1638 + free.at.slot) lt ∙ ap Some (sym is))) in
-      (free.at.page * 1638 + free.at.slot, omega arith, beyond, is)
+  -- a free slot is above the used ones of its page
+  record IsAbove (pool address : ℕ) : Type 0 where
+    index : ℕ
+    slot : ℕ
+    page : Page
+    here : slice_get v.pages index ≡ Some page
+    of_pool : page.pool ≡ pool
+    on_page : slot < page_slots pool
+    above : page.used ≤ slot
+    is : address ≡ slot_address index pool slot
 
-  -- each page is full
-  none_free : length v.items ≡ 1638 * v.pages → IsPoolFull s 0
-  none_free full address free = let k = free_slot address free in omega (arith, k.1, k.2, full)
+  free_above : (pool address : ℕ) → IsFree s pool address → IsAbove pool address
+  free_above pool address free =
+      let at = free.at in
+      let below = inside_pages at.page at.has_pool in
+      let there = page_found v.pages at.page below in
+      let pool_same : there.0.pool ≡ pool = some_same _ _ (sym (pool_known at.page there.0 there.1) ∙ at.has_pool) in
+      record {
+        index = at.page;
+        slot = at.slot;
+        page = there.0;
+        here = there.1;
+        of_pool = pool_same;
+        on_page = at.on_page;
+        above = not_below _ _ (λ lt. let k = h.used.all at.page at.slot there.0 there.1 lt in
+            free.no_place (k.0 + 1) (h.place.has k.0 k.1 ∙ ap Some (k.2 ∙ ap (λ q. slot_address at.page q at.slot) pool_same ∙ sym at.is)));
+        is = at.is;
+      }
+    where
+      inside_pages : (i : ℕ) → pool_at s.heap.pages i ≡ Some pool → i < length v.pages
+      inside_pages i e = let c = page_count in let lt : i < length s.heap.pages = grind (arith, common_steps) in omega arith
+
+  none_free : (pool : ℕ) → IsFullFor v.pages pool → IsPoolFull s pool
+  none_free pool full address free =
+      let a = free_above pool address free in
+      let used = full a.index a.page a.here a.of_pool in
+      let on = a.on_page in
+      let above = a.above in
+      omega arith
 
   nothing_at : (map : FinMap nat_cmp ℕ) → map ≡ empty → (name address : ℕ) → get map name ≢ Some address
   nothing_at map e name address at = none_some address (sym (get-empty nat_cmp name) ∙ ap (λ m. get m name) (sym e) ∙ at)
 
-  -- the next slot is the least that is free
-  next_is_new : length v.items < 1638 * v.pages → IsNewAt s 0 (address_at (length v.items))
-  next_is_new room = record {
-    free = record {
-      at = record {
-        page = length v.items / 1638;
-        slot = length v.items % 1638;
-        has_pool = page_known (length v.items / 1638) (omega arith);
-        on_page = rw first_slots (omega arith);
-        is = refl;
-      };
-      swept = rw h.untouched.unswept refl;
-      no_place = λ name e. let k = h.place.only name _ e in let same = address_at-injective _ _ k.2 in omega (arith, same, k.1);
-      no_corpse = λ name. nothing_at s.heap.corpses h.untouched.corpses name (address_at (length v.items));
-      not_left = λ name. nothing_at s.heap.left h.untouched.left name (address_at (length v.items));
-    };
-    least = λ other free. let k = free_slot other free in rw k.3 (address_at-rises _ _ k.2);
+  -- the first slot that isn't used is free
+  room_free : (pool i : ℕ) → (r : HasRoomAt v.pages pool i) → IsFree s pool (slot_address i pool r.page.used)
+  room_free pool i r = record {
+    at = record { page = i; slot = r.page.used; has_pool = pool_known i r.page r.here ∙ ap Some r.of_pool; on_page = r.room; is = refl };
+    swept = rw h.untouched.unswept refl;
+    no_place = λ name e.
+        let k = h.place.only name _ e in
+        let stands = h.used.stand k.0 k.1 in
+        let same : slot_address i pool r.page.used ≡ slot_address stands.index stands.page.pool stands.slot = k.2 ∙ stands.is in
+        let fits : stands.slot < page_slots stands.page.pool = (let a = (h.are_pages stands.index stands.page stands.here).1 in let b = stands.used in omega arith) in
+        let on : i ≡ stands.index = sym (page_of-slot_address i pool r.page.used r.room) ∙ ap page_of same ∙ page_of-slot_address stands.index stands.page.pool stands.slot fits in
+        let page : Some r.page ≡ Some stands.page = sym r.here ∙ ap (slice_get v.pages) on ∙ stands.here in
+        let one : r.page ≡ stands.page = cc in
+        let of : stands.page.pool ≡ pool = ap (λ (page : Page). page.pool) (sym one) ∙ r.of_pool in
+        let slots : slot_address i pool r.page.used ≡ slot_address i pool stands.slot = same ∙ ap (λ j. slot_address j stands.page.pool stands.slot) (sym on) ∙ ap (λ q. slot_address i q stands.slot) of in
+        let equal = slot-from_address i pool r.page.used stands.slot slots in
+        let used = stands.used in
+        let count : stands.page.used ≡ r.page.used = ap (λ (page : Page). page.used) (sym one) in
+        omega arith;
+    no_corpse = λ name. nothing_at s.heap.corpses h.untouched.corpses name (slot_address i pool r.page.used);
+    not_left = λ name. nothing_at s.heap.left h.untouched.left name (slot_address i pool r.page.used);
   }
 
-  birth_place : (new_page : Bool) → HasRoom v new_page → IsBirthPlace s 0 (address_at (length v.items))
-  birth_place false room = inl (next_is_new room)
-  birth_place true (below, full) =
+  -- and the least that is
+  room_least : (pool i : ℕ) → (r : HasRoomAt v.pages pool i) → (other : ℕ) → IsFree s pool other → slot_address i pool r.page.used ≤ other
+  room_least pool i r other free =
+      let a = free_above pool other free in
+      ⊎_elim
+      (λ same.
+      let page : Some a.page ≡ Some r.page = sym a.here ∙ ap (slice_get v.pages) same.1 ∙ r.here in
+      let one : a.page ≡ r.page = cc in
+      let above = a.above in
+      let count : a.page.used ≡ r.page.used = ap (λ (page : Page). page.used) one in
+      let le = slot_address-rises i pool r.page.used a.slot (omega arith) in
+      let is : other ≡ slot_address i pool a.slot = a.is ∙ ap (λ j. slot_address j pool a.slot) same.1 in
+      rw is le)
+      (λ apart.
+      let full = r.others_full a.index a.page a.here a.of_pool apart.1 in
+      let on = a.on_page in
+      let above = a.above in
+      absurd (omega arith))
+      (eqb_tells a.index i)
+
+  birth_place : (pool i : ℕ) → HasPlace v.pages v.limit pool i → IsBirthPlace s pool (slot_address i pool (used_at v.pages i))
+  birth_place pool i place = ⊎_elim
+      (λ r. inl (rw (used_found v.pages i r.page r.here) (record { free = room_free pool i r; least = room_least pool i r })))
+      (λ (full, next, below).
       let count = page_count in
+      let unused : used_at v.pages i ≡ 0 = rw next (grind (arith, common_steps)) in
       inr (record {
-        none_free = none_free full;
-        page = v.pages;
-        fresh = inr (no_spare, sym count, rw h.limit below);
-        is = rw full (address_at-first v.pages);
-      })
-
-  on_page : page_of (address_at (length v.items)) ≡ length v.items / 1638
-  on_page = page_of-slot_address (length v.items / 1638) 0 (length v.items % 1638) (rw first_slots (omega arith))
-
-  pages_after : (new_page : Bool) → HasRoom v new_page → with_pool s.heap.pages (page_of (address_at (length v.items))) 0 ≡ replicate (cond new_page (v.pages + 1) v.pages) (Some 0)
-  pages_after false room = rw (h.pages, on_page) (with_pool-here v.pages (length v.items / 1638) (omega arith))
-  pages_after true (below, full) = rw (h.pages, on_page) (with_pool-next v.pages (length v.items / 1638) (omega arith))
-
-  long : (root : List ℕ) (fields : ℕ) (guard : Guard) (style : Style) → length (added v false root fields guard style).items ≡ length v.items + 1
-  long root fields guard style = omega (arith, length-append v.items (new_item guard style fields ∷ []))
+        none_free = none_free pool full;
+        page = i;
+        fresh = inr (no_spare, next ∙ sym count, rw h.limit below);
+        is = rw unused refl;
+      }))
+      place
 
   -- an object was made
-  pub made : (new_page : Bool) (root : List ℕ) (fields : ℕ) (guard : Guard) (style : Style) → fields ≤ 3 → HasRoom v new_page →
-      Answers s (added v new_page root fields guard style) (New root fields guard style) (Made (length v.items + 1) (address_at (length v.items)))
-  made new_page root fields guard style few room =
-      let pool = first_pool fields few in
+  pub made : (page : ℕ) (root : List ℕ) (fields : ℕ) (guard : Guard) (style : Style) → fields ≤ 78 → HasPlace v.pages v.limit (pool_for fields) page →
+      Answers s (added v page root fields guard style) (New root fields guard style) (Made (length v.items + 1) (birth_address v page fields))
+  made page root fields guard style few place =
+      let filling = is_filled v.pages v.limit (pool_for fields) page place in
+      let on : page_of (birth_address v page fields) ≡ page = page_of-slot_address page (pool_for fields) (used_at v.pages page) (has_room v.pages v.limit fields page place) in
       record {
-        state = noted (born s root fields guard style (address_at (length v.items)));
+        state = noted (born s root fields guard style (birth_address v page fields));
         represents = record {
           graph = rw h.graph refl;
           roots = rw (h.graph, h.roots) refl;
-          pages = rw pool (pages_after new_page room);
+          pages = rw (on, h.pages) (pools-filled v.pages page (pool_for fields));
           limit = h.limit;
-          place = rw (h.graph, long root fields guard style) (one_more_placed s.heap.place (length v.items) h.place);
+          place = rw h.graph (one_more_placed s.heap.place v.places (length v.items + 1) (birth_address v page fields) (ap (λ n. n + 1) (sym h.count)) h.place);
+          count = omega (arith, h.count, length-append v.places (birth_address v page fields ∷ []), length-append v.items (new_item guard style fields ∷ []));
+          used = one_more_used v.places v.pages page (pool_for fields) (birth_address v page fields) filling refl h.used;
+          are_pages = filled_pages v.pages v.limit fields page h.are_pages place;
           untouched = record { stack = h.untouched.stack; corpses = h.untouched.corpses; left = h.untouched.left; unswept = h.untouched.unswept };
         };
-        effects = (refl, record { few = omega arith; next = rw h.graph refl; place = rw pool (birth_place new_page room); after = refl });
+        effects = (refl, record { few = few; next = rw h.graph refl; place = birth_place (pool_for fields) page place; after = refl });
       }
 
   -- no object can be made
-  pub made_none : (root : List ℕ) (fields : ℕ) (guard : Guard) (style : Style) → fields ≤ 3 → length v.items ≡ 1638 * v.pages → v.pages ≡ v.limit →
+  pub made_none : (root : List ℕ) (fields : ℕ) (guard : Guard) (style : Style) → fields ≤ 78 → IsFullFor v.pages (pool_for fields) → length v.pages ≡ v.limit →
       Answers s v (New root fields guard style) Full
-  made_none root fields guard style few full limit =
-      let pool = first_pool fields few in
-      let at_limit : IsAtLimit s 0 = record { none_free = none_free full; none_spare = no_spare; limit = page_count ∙ limit ∙ sym h.limit } in
-      record {
-        state = s;
-        represents = h;
-        effects = (refl, record { few = omega arith; limit = rw pool at_limit; unchanged = refl });
-      }
+  made_none root fields guard style few full limit = record {
+    state = s;
+    represents = h;
+    effects = (refl, record { few = few; limit = record { none_free = none_free (pool_for fields) full; none_spare = no_spare; limit = page_count ∙ limit ∙ sym h.limit }; unchanged = refl });
+  }

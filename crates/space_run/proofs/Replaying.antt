@@ -88,6 +88,28 @@ after_line limit r0 r w0 w w' mid new old_view view command h gives reading step
       written = rw text_of-append (Appends-trans w0 w w' _ _ h.written step.written);
     }
 
+-- the next line was given, and it is blank
+pub after_blank : (limit : ℕ) (r0 r w0 w : Option (List ℕ)) (mid new : Reading) (view : View) → HasReplayed limit r0 r w0 w mid view → Gives mid new →
+    IsReading new.line None → HasReplayed limit r0 r w0 w new view
+after_blank limit r0 r w0 w mid new view h gives reading = record {
+  bytes = h.bytes;
+  taken = h.taken;
+  lines = h.lines ++ new.line ∷ [];
+  cut = λ more ended.
+      h.cut more (λ told. ended (rw gives.ended told)) ∙ ap (λ xs. h.lines ++ xs) (gives.next more ended) ∙ sym (append_assoc h.lines (new.line ∷ []) (lines_of (new.pending ++ more)));
+  numbered = omega (arith, gives.number, h.numbered, length-append h.lines (new.line ∷ []));
+  at_end = λ ended. h.at_end (rw gives.ended at ended);
+  counted = gives.taken ∙ h.counted;
+  commands = h.commands;
+  read = let more = AreCommands-more h.lines new.line h.commands None h.read gives.short reading in rw append-nil at more;
+  outputs = h.outputs;
+  state = h.state;
+  stands = h.stands;
+  lawful = h.lawful;
+  spelled = h.spelled;
+  written = h.written;
+}
+
 -- the end was reached
 pub at_the_end : (limit : ℕ) (r0 r w0 w : Option (List ℕ)) (mid new : Reading) (view : View) → HasReplayed limit r0 r w0 w mid view → IsEnd mid new → Replays limit r0 r w0 w
 at_the_end limit r0 r w0 w mid new view h end =

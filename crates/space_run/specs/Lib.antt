@@ -1,4 +1,5 @@
 pub mod Objects
+pub mod Filling
 pub mod Views
 pub mod Inside
 pub mod Stands

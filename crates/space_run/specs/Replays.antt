@@ -5,16 +5,21 @@ use Rattle.std.specs.declared.alloc.Global.{Global}
 use Rattle.std.specs.Io.KnownBytes.{Appends, Consumes, IsAtEnd}
 use Rattle.space_io.specs.Causes.{Rose}
 use Rattle.space_model.specs.declared.command.Command.{Command}
-use Rattle.space_model.specs.Grammar.{Commands, AreCommands, IsReading}
+use Rattle.space_model.specs.Grammar.{Commands, AreCommands, IsReading, IsNumber}
 use Rattle.space_model.specs.Lawful.{LawfulAll}
 use Rattle.space_model.specs.Lines.{lines_of, MOST_BYTES}
 use Rattle.space_model.specs.Outputs.{Output}
 use Rattle.space_model.specs.State.{State, opening}
 use Rattle.space_model.specs.Texts.{text_of, AreSpelled, line_of_pieces, malformed_pieces}
 
--- the words of the command line are those of a replay
-abbrev pub IsReplay : List (String Global) → Type 0
-IsReplay words = map string_bytes words ≡ codes "replay" ∷ []
+-- the texts of the words are those of a replay with at most so many pages: 256, or the number behind `--pages`
+abbrev pub IsReplayText : List (List ℕ) → ℕ → Type 0
+IsReplayText texts limit =
+    ((texts ≡ codes "replay" ∷ []) × (limit ≡ 256))
+    ⊎ ((digits : List ℕ) × (texts ≡ codes "replay" ∷ codes "--pages" ∷ digits ∷ []) × IsNumber digits limit × (1 ≤ limit) × (limit ≤ 4096))
+
+abbrev pub IsReplay : List (String Global) → ℕ → Type 0
+IsReplay words limit = IsReplayText (map string_bytes words) limit
 
 -- The source was read to its end. The bytes taken are commands, and the bytes written are the text of outputs that
 -- are lawful for exactly these commands, from the opening on.

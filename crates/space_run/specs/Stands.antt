@@ -1,20 +1,32 @@
 -- Which states a space stands for.
-use Rattle.std.specs.Prelude.{◌≡◌, ℕ, ◌+◌, ◌*◌, ◌/◌, ◌%◌, ◌<◌, ◌≤◌, Bool, true, false, List, [], replicate, length, Some}
+use Rattle.std.specs.Prelude.{◌≡◌, ℕ, ◌+◌, ◌<◌, ◌≤◌, List, [], length, map, slice_get, slice_index, Some}
 use Rattle.std.specs.FinMap.{FinMap, get, empty}
 use Rattle.std.specs.Ordering.{nat_cmp}
 use Rattle.space_model.specs.Layout.{slot_address}
 use Rattle.space_model.specs.Sound.{Sound}
 use Rattle.space_model.specs.State.{State}
+use Rattle.space_run.specs.declared.pages.Page.{Page}
+use Rattle.space_run.specs.Filling.{ArePages}
 use Rattle.space_run.specs.Views.{View}
 
--- where the slot with this number is, over all pages
-abbrev pub address_at : ℕ → ℕ
-address_at k = slot_address (k / 1638) 0 (k % 1638)
+-- the names stand at these places, in the order of their birth
+pub record StandsInOrder (place : FinMap nat_cmp ℕ) (places : List ℕ) : Type 0 where
+  pub has : (k : ℕ) → k < length places → get place (k + 1) ≡ Some (slice_index places k)
+  pub only : (name address : ℕ) → get place name ≡ Some address → (k : ℕ) × (k < length places) × (address ≡ slice_index places k)
 
--- objects stand one after another, in the order of their birth
-pub record StandsInOrder (place : FinMap nat_cmp ℕ) (born : ℕ) : Type 0 where
-  pub has : (k : ℕ) → k < born → get place (k + 1) ≡ Some (address_at k)
-  pub only : (name address : ℕ) → get place name ≡ Some address → (k : ℕ) × (k < born) × (address ≡ address_at k)
+-- the address is a used slot of a page
+pub record IsUsedSlot (pages : List Page) (address : ℕ) : Type 0 where
+  pub index : ℕ
+  pub slot : ℕ
+  pub page : Page
+  pub here : slice_get pages index ≡ Some page
+  pub used : slot < page.used
+  pub is : address ≡ slot_address index page.pool slot
+
+-- the places are the used slots of the pages
+pub record AreUsed (places : List ℕ) (pages : List Page) : Type 0 where
+  pub stand : (k : ℕ) → k < length places → IsUsedSlot pages (slice_index places k)
+  pub all : (index slot : ℕ) (page : Page) → slice_get pages index ≡ Some page → slot < page.used → (k : ℕ) × (k < length places) × (slice_index places k ≡ slot_address index page.pool slot)
 
 -- what no command touches yet is as at the opening
 pub record IsUntouched (s : State) : Type 0 where
@@ -27,23 +39,15 @@ pub record IsUntouched (s : State) : Type 0 where
 pub record Represents (v : View) (s : State) : Type 0 where
   pub graph : s.graph ≡ v.items
   pub roots : s.roots ≡ v.roots
-  pub pages : s.heap.pages ≡ replicate v.pages (Some 0)
+  pub pages : s.heap.pages ≡ map (λ (page : Page). Some page.pool) v.pages
   pub limit : s.heap.limit ≡ v.limit
-  pub place : StandsInOrder s.heap.place (length v.items)
+  pub place : StandsInOrder s.heap.place v.places
+  pub count : length v.places ≡ length v.items
+  pub used : AreUsed v.places v.pages
+  pub are_pages : ArePages v.pages
   pub untouched : IsUntouched s
 
 -- the space stands for a state that is sound
 pub record Stands (v : View) (s : State) : Type 0 where
   pub represents : Represents v s
   pub sound : Sound s
-
--- there is a free slot, or a page may be made
-abbrev pub HasRoom : View → Bool → Type 0
-HasRoom v true = (v.pages < v.limit) × (length v.items ≡ 1638 * v.pages)
-HasRoom v false = length v.items < 1638 * v.pages
-
--- there are no more objects and pages than may be
-pub record IsBounded (v : View) : Type 0 where
-  pub on_pages : length v.items ≤ 1638 * v.pages
-  pub pages_within : v.pages ≤ v.limit
-  pub limited : v.limit ≤ 4096

@@ -1,25 +1,13 @@
 -- What a step of the space does.
-use Rattle.std.specs.Prelude.{ℕ, ◌≤◌, List, []}
+use Rattle.std.specs.Prelude.{ℕ, List, []}
 use Rattle.space_model.specs.declared.command.Command.{Command}
-use Rattle.space_model.specs.declared.command.Command.TheVariants.{New, Set, Store, Load, Same}
 use Rattle.space_model.specs.declared.reply.Reply.{Reply}
 use Rattle.space_model.specs.Lawful.{Effects, Lawful}
 use Rattle.space_model.specs.Outputs.{Output}
-use Rattle.space_model.specs.Sound.{IsGivenSmall}
 use Rattle.space_model.specs.State.{State}
 use Rattle.space_model.specs.Texts.{text_of, AreSpelled}
 use Rattle.space_run.specs.Views.{View}
 use Rattle.space_run.specs.Stands.{Represents, Stands}
-
--- an object has three fields at most, until there are more pools
-abbrev pub HasFewFields : Command → Type 0
-HasFewFields (New root fields guard style) = fields ≤ 3
-HasFewFields _ = Unit {0}
-
--- the space has an answer to the command
-pub record CanAnswer (command : Command) : Type 0 where
-  pub few : HasFewFields command
-  pub small : IsGivenSmall command
 
 -- the reply is lawful, without events, and the space represents the state after it
 pub record Answers (s : State) (new : View) (command : Command) (reply : Reply) : Type 0 where

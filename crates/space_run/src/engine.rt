@@ -1,5 +1,5 @@
 // The space in its plainest form: a list of objects, and the roots.
-ghost use Rattle.std.specs.Prelude.{◌≡◌, ◌≤◌, ◌<◌, ◌*◌, ℕ, Bool, length, IfOk, OnOk, OnErr, IsTrue, IsFalse, [], None};
+ghost use Rattle.std.specs.Prelude.{◌≡◌, ◌≤◌, ◌<◌, ◌+◌, ℕ, length, IfOk, OnOk, OnErr, MatchOption, [], None};
 ghost use Rattle.std.specs.FinMap.{FinMap};
 ghost use Rattle.std.specs.Ordering.{nat_cmp};
 ghost use Rattle.std.specs.Io.KnownBytes.{Appends};
@@ -9,33 +9,45 @@ ghost use Rattle.space_model.specs.declared.command.Command.TheVariants.{New, Se
 ghost use Rattle.space_model.specs.Answers.{field_value, written_field, same_reply};
 ghost use Rattle.space_model.specs.Graph.{item_of};
 ghost use Rattle.space_model.specs.Operands.{operand_value_in, input_value_in, object_in, field_in};
+ghost use Rattle.space_model.specs.Layout.{pool_for as pool_of_fields};
 ghost use Rattle.space_model.specs.Refusals.{both as both_values};
 ghost use Rattle.space_model.specs.Roots.{root_value};
 ghost use Rattle.space_model.specs.State.{State, opening};
-ghost use Rattle.space_run.specs.Steps.{CanAnswer, Answers, Steps};
-ghost use Rattle.space_run.specs.Stands.{Stands, HasRoom, IsBounded, address_at};
-ghost use Rattle.space_run.specs.Views.{added, empty_view, with_root_written, with_field};
+ghost use Rattle.space_model.specs.Sound.{IsGivenSmall};
+ghost use Rattle.space_run.specs.Steps.{Answers, Steps};
+ghost use Rattle.space_run.specs.Filling.{IsFullFor, HasPlace};
+ghost use Rattle.space_run.specs.Stands.{Stands};
+ghost use Rattle.space_run.specs.Views.{added, birth_address, empty_view, with_root_written, with_field};
 
 use crate::objects::{Object, make_object, read_field, write_field};
 use crate::operands::{both, is_same, object_of};
+use crate::pages::{NO_PAGE, Page, fill, room_page, used_of};
 use crate::roots::Roots;
 use space_io::{Sink, WriteFault};
 use space_model::{
-    Command, Guard, Ident, Input, Operand, Refusal, Reply, Style, Value, address_of,
+    Command, Guard, Ident, Input, MOST_FIELDS, Operand, POOLS, Refusal, Reply, Style, Value,
+    address_of, pool_for,
 };
 use space_trace::write_reply;
 use std::alloc::{AllocError as NoMemory, Global};
 use std::marker::Model;
 
-const PAGE_SLOTS: u32 = 1638;
+// The name and the address of an object that was made.
+#[derive(Clone, Copy)]
+struct Birth {
+    name: u64,
+    address: u64,
+}
 
-/// The objects that were born, what roots hold, and how many pages there are.
+/// The objects that were born, what roots hold, and the pages.
 #[derive(Drop)]
 pub struct Space {
     alloc: Global,
     objects: Vec<Object>,
     roots: Roots,
-    pages: u32,
+    pages: Vec<Page>,
+    // The last page of each pool.
+    last: [u32; 5],
     limit: u32,
 }
 
@@ -62,55 +74,55 @@ impl Space {
             alloc,
             objects: Vec::new(alloc),
             roots: Roots::new(alloc),
-            pages: 0,
+            pages: Vec::new(alloc),
+            last: [NO_PAGE; 5],
             limit,
         }
     }
 
-    // Whether each page is full.
-    fn is_full(&self) -> bool
-        ensures full { IsTrue result → length self.now.items ≡ 1638 * self.now.pages }
-        ensures room { IsFalse result → length self.now.items < 1638 * self.now.pages }
-        ensures bounds { IsBounded self.now }
+    // The page where an object of the pool is born; `None` where none has a free slot and no further one may be made.
+    fn birth_page(&self, pool: u8) -> Option<u32>
+        requires { pool < POOLS }
+        ensures { MatchOption result (IsFullFor self.now.pages pool × (length self.now.pages ≡ self.now.limit)) (HasPlace self.now.pages self.now.limit pool) }
     {
-        self.objects.len() as u64 == u64::from(PAGE_SLOTS) * u64::from(self.pages)
+        if let Some(page) = room_page(&self.pages, &self.last, pool) {
+            return Some(page);
+        }
+        let next = self.pages.len() as u32;
+        if next == self.limit { None } else { Some(next) }
     }
 
-    // Whether there are as many pages as may be.
-    fn is_at_limit(&self) -> bool
-        ensures limit { IsTrue result → self.now.pages ≡ self.now.limit }
-        ensures below { IsFalse result → self.now.pages < self.now.limit }
-    {
-        self.pages == self.limit
-    }
-
-    // Adds an object, on a new page where one is wanted, and tells its index. An `Err` changes nothing.
+    // Adds an object on this page. An `Err` changes nothing.
     fn add(
         &mut self,
-        new_page: bool,
+        page: u32,
         root: &Ident,
         fields: u64,
         guard: Guard,
         style: Style,
-    ) -> Result<u64, NoMemory>
-        requires fields { fields ≤ 3 }
-        requires room { HasRoom self.old new_page }
-        ensures ok { OnOk result (self.new ≡ added self.old new_page root.now fields guard style) }
-        ensures number { IfOk result (λ n. n ≡ length self.old.items) }
-        ensures had_room { HasRoom self.old new_page }
+    ) -> Result<Birth, NoMemory>
+        requires few { fields ≤ MOST_FIELDS }
+        requires room { HasPlace self.old.pages self.old.limit (pool_of_fields fields) page }
+        ensures ok { OnOk result (self.new ≡ added self.old page root.now fields guard style) }
+        ensures name { IfOk result (λ birth. birth.name ≡ length self.old.items + 1) }
+        ensures address { IfOk result (λ birth. birth.address ≡ birth_address self.old page fields) }
+        ensures had_room { HasPlace self.old.pages self.old.limit (pool_of_fields fields) page }
         ensures err { OnErr result (self.new ≡ self.old) }
     {
-        let object = make_object(self.alloc, fields, guard, style)?;
+        let Some(pool) = pool_for(fields) else {
+            unreachable!();
+        };
+        let address = address_of(page, pool, used_of(&self.pages, page));
+        let object = make_object(self.alloc, address, fields, guard, style)?;
         self.objects.reserve(1)?;
-        let born = self.objects.len() as u64;
-        self.roots.set(root, Value::Name(born + 1))?;
-        if new_page {
-            self.pages += 1;
-        }
+        self.pages.reserve(1)?;
+        let name = self.objects.len() as u64 + 1;
+        self.roots.set(root, Value::Name(name))?;
+        fill(&mut self.pages, &mut self.last, page, pool);
         if self.objects.push(object).is_err() {
             unreachable!();
         }
-        Ok(born)
+        Ok(Birth { name, address })
     }
 
     // The value of an operand; the stack is always empty yet.
@@ -186,18 +198,18 @@ impl Space {
 
     // Makes an object, and the root holds it.
     fn create(&mut self, root: &Ident, fields: u64, guard: Guard, style: Style) -> Reply
-        requires { fields ≤ 3 }
         ensures { (s : State) → Stands self.old s → Answers s self.new (New root.now fields guard style) result }
     {
-        let new_page = self.is_full();
-        if new_page && self.is_at_limit() {
+        let Some(pool) = pool_for(fields) else {
+            return Reply::Refused {
+                why: Refusal::TooLarge,
+            };
+        };
+        let Some(page) = self.birth_page(pool) else {
             return Reply::Full;
-        }
-        match self.add(new_page, root, fields, guard, style) {
-            Ok(born) => Reply::Made {
-                name: born + 1,
-                address: address_of_slot(born),
-            },
+        };
+        match self.add(page, root, fields, guard, style) {
+            Ok(Birth { name, address }) => Reply::Made { name, address },
             Err(_) => Reply::NoMemory,
         }
     }
@@ -251,7 +263,7 @@ impl Space {
 
     // The reply to a command.
     fn answer(&mut self, command: &Command) -> Reply
-        requires { CanAnswer command.now }
+        requires { IsGivenSmall command.now }
         ensures { (s : State) → Stands self.old s → Answers s self.new command.now result }
     {
         match command {
@@ -278,7 +290,7 @@ impl Space {
 
     /// Answers a command, and writes its lines. At an `Err` a prefix of them was written.
     pub fn step<K: Sink>(&mut self, command: &Command, sink: &mut K) -> Result<(), WriteFault>
-        requires { CanAnswer command.now }
+        requires { IsGivenSmall command.now }
         ensures steps { OnOk result (Steps self.old self.new command.now (Appends (K.written sink.old) (K.written sink.new))) }
         ensures fault { OnErr result (Steps self.old self.new command.now (AppendsPrefix (K.written sink.old) (K.written sink.new))) }
         ensures cause { HasCause (K.faults sink.old) (K.faults sink.new) result }
@@ -286,14 +298,4 @@ impl Space {
         let reply = self.answer(command);
         write_reply(&reply, sink)
     }
-}
-
-// Where the slot with this number is, over all pages.
-fn address_of_slot(number: u64) -> u64
-    requires { number < 1638 * 4096 }
-    ensures { result ≡ address_at number }
-{
-    let page = (number / u64::from(PAGE_SLOTS)) as u32;
-    let slot = (number % u64::from(PAGE_SLOTS)) as u32;
-    address_of(page, 0, slot)
 }

@@ -4,6 +4,7 @@
 mod engine;
 mod objects;
 mod operands;
+mod pages;
 mod replay;
 mod roots;
 #[cfg(test)]

@@ -3,14 +3,15 @@ ghost use Rattle.std.specs.Prelude.{◌≡◌, ◌≤◌, ◌<◌, ◌-◌, leng
 ghost use Rattle.space_model.specs.Graph.{item_of};
 ghost use Rattle.space_model.specs.Operands.{field_in};
 ghost use Rattle.space_model.specs.Pieces.{new_item, item_stored};
-ghost use Rattle.space_run.specs.Objects.{item_of_object, items_of};
+ghost use Rattle.space_run.specs.Objects.{item_of_object, items_of, places_of};
 
 use space_model::{Guard, MOST_FIELDS, Refusal, Style, Value};
 use std::alloc::{AllocError as NoMemory, Global};
 
-/// An object: its guard, its style and its fields.
+/// An object: where it stands, its guard, its style and its fields.
 #[derive(Drop)]
 pub struct Object {
+    pub address: u64,
     pub guard: Guard,
     pub style: Style,
     pub values: Vec<Value>,
@@ -19,15 +20,18 @@ pub struct Object {
 /// An object whose fields are nil.
 pub fn make_object(
     alloc: Global,
+    address: u64,
     fields: u64,
     guard: Guard,
     style: Style,
 ) -> Result<Object, NoMemory>
     requires { fields ≤ MOST_FIELDS }
-    ensures { IfOk result (λ object. item_of_object object ≡ new_item guard style fields) }
+    ensures item { IfOk result (λ object. item_of_object object ≡ new_item guard style fields) }
+    ensures place { IfOk result (λ object. object.address ≡ address) }
 {
     let values = vec![in alloc; Value::Nil; fields as usize]?;
     Ok(Object {
+        address,
         guard,
         style,
         values,
@@ -54,6 +58,7 @@ pub fn read_field(objects: &[Object], name: u64, index: u64) -> Result<Value, Re
 pub fn write_field(objects: &mut Vec<Object>, name: u64, index: u64, value: Value)
     requires { index < length (item_of (items_of objects.old.items) name).values }
     ensures items { items_of objects.new.items ≡ slice_set (items_of objects.old.items) (name - 1) (item_stored (item_of (items_of objects.old.items) name) index value) }
+    ensures places { places_of objects.new.items ≡ places_of objects.old.items }
     ensures len { vec_len objects.new ≡ vec_len objects.old }
 {
     let object = &mut objects[name.saturating_sub(1) as usize];

@@ -1,8 +1,10 @@
 // Replays a trace.
-ghost use Rattle.std.specs.Prelude.{◌≡◌, ◌≢◌, ◌≤◌, ◌⊎◌, ◌↔◌, IsTrue};
+ghost use Rattle.std.specs.Prelude.{◌≡◌, ◌≢◌, ◌<◌, ◌≤◌, ◌⊎◌, ◌↔◌, ℕ, List, Some, IsTrue, MatchOption, map, slice_get, vec_len};
+ghost use Rattle.std.specs.String.{string_bytes};
 ghost use Rattle.std.specs.Io.KnownBytes.{Appends};
 ghost use Rattle.space_io.specs.Causes.{Rose};
 ghost use Rattle.space_io.specs.Reading.{at_start};
+ghost use Rattle.space_model.specs.Grammar.{IsNumber};
 ghost use Rattle.space_model.specs.State.{opening};
 ghost use Rattle.space_model.specs.Texts.{line_of_pieces, malformed_pieces};
 ghost use Rattle.space_run.specs.Replays.{Replays, StopsAtLine, HasReachedLimit, IsReplay, IsWholeInput, IsCalm};
@@ -11,11 +13,14 @@ ghost use Rattle.space_run.specs.Views.{empty_view};
 
 use crate::engine::Space;
 use space_io::{LineFault, Lines, Sink, Source};
-use space_trace::{read_command, write_malformed};
+use space_trace::{read_command, read_number, write_malformed};
 use std::alloc::Global;
 
-/// The most pages of a space.
+/// The most pages of a space, where the words say nothing of them.
 const PAGES: u32 = 256;
+
+/// The most pages that the words may allow.
+const MOST_PAGES: u64 = 4096;
 
 // Writes that the line is malformed, and answers the status.
 fn stop_at<K: Sink>(number: u64, sink: &mut K) -> u8
@@ -38,12 +43,12 @@ fn replay<S: Source, K: Sink>(
     sink: &mut K,
 ) -> u8
     requires lines { lines ≡ at_start }
-    requires space { space ≡ empty_view 256 }
-    requires stands { Stands (empty_view 256) (opening 256) }
+    requires space { space ≡ empty_view space.limit }
+    requires stands { Stands (empty_view space.limit) (opening space.limit) }
 
     ensures status { (result ≢ 1) × (result ≢ 2) × (result ≤ 6) }
-    ensures done { result ≡ 0 → Replays 256 (S.rest source.old) (S.rest source.new) (K.written sink.old) (K.written sink.new) }
-    ensures malformed { result ≡ 3 → StopsAtLine 256 (S.rest source.old) (S.rest source.new) (K.written sink.old) (K.written sink.new) }
+    ensures done { result ≡ 0 → Replays space.limit (S.rest source.old) (S.rest source.new) (K.written sink.old) (K.written sink.new) }
+    ensures malformed { result ≡ 3 → StopsAtLine space.limit (S.rest source.old) (S.rest source.new) (K.written sink.old) (K.written sink.new) }
     ensures read_fault { result ≡ 4 → Rose (S.faults source.old) (S.faults source.new) }
     ensures write_fault { result ≡ 5 → Rose (K.faults sink.old) (K.faults sink.new) }
     ensures limit { result ≡ 6 → HasReachedLimit (S.rest source.old) (S.rest source.new) }
@@ -61,25 +66,56 @@ fn replay<S: Source, K: Sink>(
         let Ok(found) = read_command(line.bytes) else {
             return stop_at(number, sink);
         };
-        if let Some(command) = found {
-            if space.step(&command, sink).is_err() {
-                return 5;
-            }
+        let Some(command) = found else {
+            continue;
+        };
+        if space.step(&command, sink).is_err() {
+            return 5;
         }
     }
 }
 
-// Whether the words are those of a replay.
-fn is_replay(words: &Vec<String>) -> bool
-    ensures { IsTrue result ↔ IsReplay words.now.items }
+// Whether the word at a place is this text.
+fn is_word(words: &Vec<String>, place: usize, text: &str) -> bool
+    requires { place < vec_len words.now }
+    ensures { IsTrue result ↔ (slice_get (map string_bytes words.now.items) place ≡ Some text.now) }
 {
-    words.len() == 1 && words[0].as_str() == "replay"
+    words[place].as_str() == text
+}
+
+// The number that the word at a place is.
+fn number_at(words: &Vec<String>, place: usize) -> Option<u64>
+    requires { place < vec_len words.now }
+    ensures { (digits : List ℕ) → slice_get (map string_bytes words.now.items) place ≡ Some digits → MatchOption result ((number : ℕ) → IsNumber digits number → ⊥) (IsNumber digits) }
+{
+    read_number(words[place].as_bytes())
+}
+
+// The most pages of the space, where the words are those of a replay.
+fn page_limit(words: &Vec<String>) -> Option<u32>
+    ensures { MatchOption result ((limit : ℕ) → IsReplay words.now.items limit → ⊥) (IsReplay words.now.items) }
+{
+    if words.is_empty() || !is_word(words, 0, "replay") {
+        return None;
+    }
+    if words.len() == 1 {
+        return Some(PAGES);
+    }
+    if words.len() != 3 || !is_word(words, 1, "--pages") {
+        return None;
+    }
+    let pages = number_at(words, 2)?;
+    if pages == 0 || pages > MOST_PAGES {
+        return None;
+    }
+    Some(pages as u32)
 }
 
 /// Does what the words say, those after the program's name, and answers the status of the program.
 ///
-/// The words are `replay`: the trace of the source is replayed on a space of at most 256 pages, and each line is
-/// answered on the sink. The statuses are this project's own:
+/// The words are `replay`, or `replay --pages N` with N from 1 to 4,096 in 1 to 20 digits: the trace of the source is
+/// replayed on a space of at most N pages, else 256, and each line is answered on the sink. The statuses are this
+/// project's own:
 ///
 /// | status | when |
 /// |---|---|
@@ -97,31 +133,31 @@ pub fn run<S: Source, K: Sink>(
     sink: &mut K,
 ) -> u8
     // Each command of the input had lawful outputs, from the opening on, and they were written.
-    ensures done { result ≡ 0 → Replays 256 (S.rest source.old) (S.rest source.new) (K.written sink.old) (K.written sink.new) }
+    ensures done { (limit : ℕ) → IsReplay words.now.items limit → result ≡ 0 → Replays limit (S.rest source.old) (S.rest source.new) (K.written sink.old) (K.written sink.new) }
 
     // The words are refused exactly where they are no replay.
-    ensures refused { (IsReplay words.now.items → ⊥) → result ≡ 2 }
-    ensures accepted { IsReplay words.now.items → result ≢ 2 }
+    ensures refused { ((limit : ℕ) → IsReplay words.now.items limit → ⊥) → result ≡ 2 }
+    ensures accepted { (limit : ℕ) → IsReplay words.now.items limit → result ≢ 2 }
 
     // Then, and where memory is lacking, nothing was read or written.
     ensures unread { (result ≡ 1) ⊎ (result ≡ 2) → source.new ≡ source.old }
     ensures unwritten { (result ≡ 1) ⊎ (result ≡ 2) → sink.new ≡ sink.old }
 
     // Every other end has its cause.
-    ensures malformed { result ≡ 3 → StopsAtLine 256 (S.rest source.old) (S.rest source.new) (K.written sink.old) (K.written sink.new) }
+    ensures malformed { (limit : ℕ) → IsReplay words.now.items limit → result ≡ 3 → StopsAtLine limit (S.rest source.old) (S.rest source.new) (K.written sink.old) (K.written sink.new) }
     ensures read_fault { result ≡ 4 → Rose (S.faults source.old) (S.faults source.new) }
     ensures write_fault { result ≡ 5 → Rose (K.faults sink.old) (K.faults sink.new) }
     ensures limit { result ≡ 6 → HasReachedLimit (S.rest source.old) (S.rest source.new) }
     ensures status { result ≤ 6 }
 
     // A lawful input, without faults, is replayed to its end, where there is memory to begin with.
-    ensures complete { IsReplay words.now.items → IsWholeInput (S.rest source.old) → IsCalm (S.faults source.old) (S.faults source.new) (K.faults sink.old) (K.faults sink.new) → (result ≡ 0) ⊎ (result ≡ 1) }
+    ensures complete { (limit : ℕ) → IsReplay words.now.items limit → IsWholeInput (S.rest source.old) → IsCalm (S.faults source.old) (S.faults source.new) (K.faults sink.old) (K.faults sink.new) → (result ≡ 0) ⊎ (result ≡ 1) }
 {
-    if !is_replay(words) {
+    let Some(limit) = page_limit(words) else {
         return 2;
-    }
+    };
     let Ok(lines) = Lines::new(alloc) else {
         return 1;
     };
-    replay(lines, Space::new(alloc, PAGES), source, sink)
+    replay(lines, Space::new(alloc, limit), source, sink)
 }

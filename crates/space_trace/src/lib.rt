@@ -16,5 +16,6 @@ mod words;
 mod writer;
 
 pub use laws::{readings_are_one, spellings_are_read};
+pub use numbers::read_number;
 pub use reader::{Malformed, read_command};
 pub use writer::{write_command, write_event, write_malformed, write_reply};
