@@ -27,7 +27,7 @@ fn main(rt: HostRuntime) -> ExitCode {
         },
     };
     if status == REFUSED {
-        let _ = eprintln!(rt; "usage: rubyspace replay < TRACE");
+        let _ = eprintln!(rt; "usage: rubyspace replay [--pages N] < TRACE");
     }
     ExitCode::from(status)
 }

@@ -82,9 +82,12 @@ at_page pages i pool page e of =
       same_pool = λ other f. ap (λ (p : Page). p.pool) (same_page other page (sym f ∙ e)) ∙ of;
       here = here;
       stays = λ j old f. ⊎_elim
-          (λ same. (next, ap (slice_get (filled pages i pool)) same.1 ∙ here,
-          (let one = same_page old page (sym f ∙ ap (slice_get pages) same.1 ∙ e) in let counts : old.used ≡ page.used = ap (λ (p : Page). p.used) one in omega arith),
-          (let one = same_page old page (sym f ∙ ap (slice_get pages) same.1 ∙ e) in sym of ∙ ap (λ (p : Page). p.pool) (sym one))))
+          (λ same. (
+            next,
+            ap (slice_get (filled pages i pool)) same.1 ∙ here,
+            (let one = same_page old page (sym f ∙ ap (slice_get pages) same.1 ∙ e) in let counts : old.used ≡ page.used = ap (λ (p : Page). p.used) one in omega arith),
+            (let one = same_page old page (sym f ∙ ap (slice_get pages) same.1 ∙ e) in sym of ∙ ap (λ (p : Page). p.pool) (sym one)),
+          ))
           (λ other. (old, ap (λ ps. slice_get ps j) is ∙ get-set_other pages i j next other.1 ∙ f, omega arith, refl))
           (eqb_tells j i);
       only = λ j new slot f lt_used. ⊎_elim

@@ -1,24 +1,28 @@
 // `run` on traces in memory, with the answers that its definitions give, written out by hand.
-ghost use Rattle.std.specs.Prelude.{◌<◌};
-
 use crate::run;
 use space_io::{MemorySink, MemorySource};
 use std::alloc::Global;
 use std::test::Fail;
 
+// The words of a command line.
+fn words_of(alloc: Global, texts: &[&str]) -> Result<Vec<String>, Fail> {
+    let mut words = Vec::new(alloc);
+    for text in texts {
+        words.push(String::from_str(alloc, text)?)?;
+    }
+    Ok(words)
+}
+
 // The status, and what was written.
 fn replayed(
     alloc: Global,
+    texts: &[&str],
     trace: &[u8],
-    most: usize,
     failing: Vec<u64>,
     sink_failing: Vec<u64>,
-) -> Result<(u8, Vec<u8>), Fail>
-    requires { 0 < most }
-{
-    let mut words = Vec::new(alloc);
-    words.push(String::from_str(alloc, "replay")?)?;
-    let mut source = MemorySource::new(trace.to_vec(alloc)?, most, failing);
+) -> Result<(u8, Vec<u8>), Fail> {
+    let words = words_of(alloc, texts)?;
+    let mut source = MemorySource::new(trace.to_vec(alloc)?, 15, failing);
     let mut sink = MemorySink::new(alloc, 10_000, 7, sink_failing)?;
     let status = run(alloc, &words, &mut source, &mut sink);
     Ok((status, sink.bytes().to_vec(alloc)?))
@@ -30,7 +34,7 @@ fn traces_are_answered(rt: HostRuntime) -> Result<(), Fail> {
     let linked: &[u8] =
         b"new a 1 P M\nstore a 0 a\nload b a 0\nsame a b\nnew c 3 P M\nsame a c\nset d =7\nstore c 2 d\nload e c 2\nset d nil\nload e c 0\nload e q 0\nload e d 0\nload e c 3\nnew x 4 P M\n";
     let linked_text: &[u8] =
-        b"#1 0x10000\nok\n#1\ntrue\n#2 0x10028\nfalse\nok\nok\n=7\nok\nnil\nerror no root\nerror not an object\nerror no field\nline 15: malformed\n";
+        b"#1 0x10000\nok\n#1\ntrue\n#2 0x10028\nfalse\nok\nok\n=7\nok\nnil\nerror no root\nerror not an object\nerror no field\n#3 0x20000\n";
     // The root that `load` writes is read first; a refused command makes no root.
     let read_first: &[u8] =
         b"new a 1 P M\nstore a 0 =5\nload a a 0\nsame a a\nload a a 0\nload r a 0\nsame r r";
@@ -41,14 +45,24 @@ fn traces_are_answered(rt: HostRuntime) -> Result<(), Fail> {
         b"set b nil\nstore b 9 q\nstore b 9 b\nnew a 0 P M\nstore a 9 a\nset b a\nsame a b\n";
     let order_text: &[u8] =
         b"ok\nerror no root\nerror not an object\n#1 0x10000\nerror no field\nok\ntrue\n";
-    let cases: [(&[u8], u8, &[u8]); 4] = [
+    // Each pool has pages of its own; what is too large is refused, and leaves no root.
+    let sizes: &[u8] =
+        b"new a 3 P M\nnew b 3 P M\nnew c 4 P M\nnew d 78 P M\nnew e 79 P M\nsame e e\nnew f 38 P M\nnew g 9 P M\nnew h 8 P M\n";
+    let sizes_text: &[u8] =
+        b"#1 0x10000\n#2 0x10028\n#3 0x20000\n#4 0x30000\nerror too large\nerror no root\n#5 0x40000\n#6 0x50000\n#7 0x20050\n";
+    // Blank lines have no answer and count; one CR is dropped, and two aren't.
+    let blank: &[u8] = b"; a comment\n\n\r\nnew a 0 P M\r\n;\nset b a\r\r\n";
+    let blank_text: &[u8] = b"#1 0x10000\nline 6: malformed\n";
+    let cases: [(&[u8], u8, &[u8]); 6] = [
         (b"", 0, b""),
-        (linked, 3, linked_text),
+        (linked, 0, linked_text),
         (read_first, 0, read_first_text),
         (order, 0, order_text),
+        (sizes, 0, sizes_text),
+        (blank, 3, blank_text),
     ];
     for (trace, wanted_status, wanted) in cases {
-        let (status, text) = replayed(alloc, trace, 5, Vec::new(alloc), Vec::new(alloc))?;
+        let (status, text) = replayed(alloc, &["replay"], trace, Vec::new(alloc), Vec::new(alloc))?;
         assert_eq!(rt; status, wanted_status);
         assert!(rt; text.as_slice() == wanted);
     }
@@ -56,36 +70,103 @@ fn traces_are_answered(rt: HostRuntime) -> Result<(), Fail> {
 }
 
 #[test]
+fn a_line_has_4096_bytes_at_most(rt: HostRuntime) -> Result<(), Fail> {
+    let alloc = rt.alloc();
+    let mut trace = vec![in alloc; b'x'; 4097]?;
+    trace[0] = b';';
+    let (status, text) = replayed(alloc, &["replay"], &trace, Vec::new(alloc), Vec::new(alloc))?;
+    assert_eq!(rt; status, 3);
+    assert!(rt; text.as_slice() == b"line 1: malformed\n".as_slice());
+    let (status, text) = replayed(
+        alloc,
+        &["replay"],
+        &trace[..4096],
+        Vec::new(alloc),
+        Vec::new(alloc),
+    )?;
+    assert_eq!(rt; status, 0);
+    assert!(rt; text.is_empty());
+    Ok(())
+}
+
+#[test]
 fn faults_end_a_replay(rt: HostRuntime) -> Result<(), Fail> {
     let alloc = rt.alloc();
     let trace: &[u8] = b"new a 0 P M\nnew b 0 P M\nnew c 0 P M\n";
-    let (status, text) = replayed(alloc, trace, 15, [3u64].to_vec(alloc)?, Vec::new(alloc))?;
+    let (status, text) = replayed(
+        alloc,
+        &["replay"],
+        trace,
+        [3u64].to_vec(alloc)?,
+        Vec::new(alloc),
+    )?;
     assert_eq!(rt; status, 4);
     assert!(rt; text.as_slice() == b"#1 0x10000\n#2 0x10028\n".as_slice());
-    let (status, text) = replayed(alloc, trace, 15, Vec::new(alloc), [2u64].to_vec(alloc)?)?;
+    let (status, text) = replayed(
+        alloc,
+        &["replay"],
+        trace,
+        Vec::new(alloc),
+        [2u64].to_vec(alloc)?,
+    )?;
     assert_eq!(rt; status, 5);
     assert!(rt; text.as_slice() == b"#1 0x10".as_slice());
-    let (status, text) = replayed(alloc, b"gc\n", 15, Vec::new(alloc), [1u64].to_vec(alloc)?)?;
+    let (status, text) = replayed(
+        alloc,
+        &["replay"],
+        b"gc\n",
+        Vec::new(alloc),
+        [1u64].to_vec(alloc)?,
+    )?;
     assert_eq!(rt; status, 5);
     assert!(rt; text.is_empty());
     Ok(())
 }
 
 #[test]
-fn other_words_are_refused(rt: HostRuntime) -> Result<(), Fail> {
+fn words_are_accepted_or_refused(rt: HostRuntime) -> Result<(), Fail> {
     let alloc = rt.alloc();
-    let refused: [&str; 3] = ["", "Replay", "replay "];
-    for word in refused {
-        let mut words = Vec::new(alloc);
-        words.push(String::from_str(alloc, word)?)?;
-        let mut source = MemorySource::new(b"new a 0 P M\n".to_vec(alloc)?, 9, Vec::new(alloc));
-        let mut sink = MemorySink::new(alloc, 100, 9, Vec::new(alloc))?;
-        assert_eq!(rt; run(alloc, &words, &mut source, &mut sink), 2);
-        assert!(rt; sink.bytes().is_empty());
+    let cases: [(&[&str], u8); 13] = [
+        (&["replay", "--pages", "1"], 0),
+        (&["replay", "--pages", "4096"], 0),
+        (&["replay", "--pages", "00000000000000000256"], 0),
+        (&[], 2),
+        (&[""], 2),
+        (&["Replay"], 2),
+        (&["replay", "--pages"], 2),
+        (&["replay", "--pages", "0"], 2),
+        (&["replay", "--pages", "4097"], 2),
+        (&["replay", "--pages", "+1"], 2),
+        (&["replay", "--pages", "000000000000000000256"], 2),
+        (&["replay", "--pages", "1", "1"], 2),
+        (&["--pages", "1", "replay"], 2),
+    ];
+    for (texts, wanted) in cases {
+        let (status, text) = replayed(
+            alloc,
+            texts,
+            b"new a 0 P M\n",
+            Vec::new(alloc),
+            Vec::new(alloc),
+        )?;
+        assert_eq!(rt; status, wanted);
+        assert!(rt; text.is_empty() == (wanted == 2));
     }
-    let mut source = MemorySource::new(Vec::new(alloc), 9, Vec::new(alloc));
-    let mut sink = MemorySink::new(alloc, 100, 9, Vec::new(alloc))?;
-    assert_eq!(rt; run(alloc, &Vec::new(alloc), &mut source, &mut sink), 2);
+    Ok(())
+}
+
+#[test]
+fn pages_are_limited(rt: HostRuntime) -> Result<(), Fail> {
+    let alloc = rt.alloc();
+    let (status, text) = replayed(
+        alloc,
+        &["replay", "--pages", "1"],
+        b"new a 0 P M\nnew b 4 P M\nsame a b\nnew c 3 P M\n",
+        Vec::new(alloc),
+        Vec::new(alloc),
+    )?;
+    assert_eq!(rt; status, 0);
+    assert!(rt; text.as_slice() == b"#1 0x10000\nfull\nerror no root\n#2 0x10028\n".as_slice());
     Ok(())
 }
 
@@ -96,8 +177,7 @@ fn the_last_of_all_slots_is_used(rt: HostRuntime) -> Result<(), Fail> {
     for _ in 0..419_329 {
         trace.extend_from_slice(b"new a 0 P M\n")?;
     }
-    let mut words = Vec::new(alloc);
-    words.push(String::from_str(alloc, "replay")?)?;
+    let words = words_of(alloc, &["replay"])?;
     let mut source = MemorySource::new(trace, 1 << 16, Vec::new(alloc));
     let mut sink = MemorySink::new(alloc, 1 << 23, 1 << 16, Vec::new(alloc))?;
     assert_eq!(rt; run(alloc, &words, &mut source, &mut sink), 0);
