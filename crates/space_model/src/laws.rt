@@ -23,7 +23,7 @@ pub fn states_are_sound()
     ensures commands { LawfulAllIsSound }
 {}
 
-/// The bytes that were written name every output, and so every choice that was made.
+/// So the bytes that were written name every output.
 pub fn texts_differ()
     ensures differ { TextsDiffer }
 {}

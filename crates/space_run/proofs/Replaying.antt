@@ -1,12 +1,12 @@
 -- A replay goes on by one line, and how it ends.
 use Rattle.std.proofs.lemmas.Bool.Decides.{eqb_tells}
-use Rattle.std.proofs.Common.{◌≡◌, ◌≢◌, ◌⊎◌, ◌+◌, ◌≤◌, ◌<◌, ◌^◌, ℕ, List, [], ◌∷◌, ◌++◌, Option, Some, None, refl, ap, ◌∙◌, sym, subst, Result, Ok, Err, is_err, OnOk, false, IsTrue, Bool, length, length-append, arith, inl, inr, ⊎_elim}
+use Rattle.std.proofs.Common.{◌≡◌, ◌≢◌, ◌⊎◌, ◌+◌, ◌≤◌, ◌<◌, ◌^◌, ℕ, List, [], ◌∷◌, ◌++◌, Option, Some, None, refl, ap, ◌∙◌, sym, subst, Result, Ok, Err, is_err, OnOk, false, true, IsTrue, IsFalse, Bool, length, length-append, arith, inl, inr, ⊎_elim}
 use mathlib.Core.List.{append_assoc}
 use Rattle.std.specs.List.{onto_first}
 use Rattle.std.proofs.lemmas.List.{append-nil}
 use Rattle.std.specs.Io.KnownBytes.{Appends, Consumes, IsAtEnd}
 use Rattle.std.proofs.KnownBytes.{Appends-nil, Appends-trans, Consumes-nil, Consumes-trans}
-use Rattle.space_io.specs.Reading.{Reading, Takes, Gives, at_start}
+use Rattle.space_io.specs.Reading.{Reading, Takes, Gives, IsUnfinished, at_start}
 use Rattle.space_io.specs.Next.{IsEnd}
 use Rattle.space_model.specs.declared.command.Command.{Command}
 use Rattle.space_model.specs.Grammar.{AreCommands, IsReading}
@@ -17,7 +17,7 @@ use Rattle.space_model.specs.State.{opening}
 use Rattle.space_model.specs.Texts.{text_of, AreSpelled, line_of_pieces, malformed_pieces}
 use Rattle.space_model.proofs.RunLemmas.{LawfulAll-more, AreCommands-more, text_of-append, AreSpelled-append}
 use Rattle.space_run.specs.Progress.{HasReplayed}
-use Rattle.space_run.specs.Replays.{Replays, StopsAtLine, HasBadNext, HasReachedLimit, IsMalformed, IsWholeInput}
+use Rattle.space_run.specs.Replays.{Replays, StopsAtLine, HasBadNext, IsCutOff, HasFailedRead, HasReachedLimit, IsMalformed, IsWholeInput}
 use Rattle.space_run.specs.Stands.{Stands}
 use Rattle.space_run.specs.Steps.{Steps}
 use Rattle.space_run.specs.Views.{View, empty_view}
@@ -118,6 +118,7 @@ at_the_end limit r0 r w0 w mid new view h end =
     record {
       bytes = h.bytes;
       taken = h.taken;
+      few = rw h.counted at end.asked;
       at_end = h.at_end end.ended;
       commands = h.commands;
       read = rw all h.read;
@@ -134,13 +135,14 @@ kept_promise (Ok x) e h = h
 kept_promise (Err x) e h = cc
 
 -- the next line is bad, and that was written
-pub stopped : (limit : ℕ) (r0 r w0 w w' : Option (List ℕ)) (mid : Reading) (view : View) (number : ℕ) → (h : HasReplayed limit r0 r w0 w mid view) → number ≡ mid.number + 1 →
+pub stopped : (limit : ℕ) (r0 r w0 w w' : Option (List ℕ)) (mid : Reading) (view : View) (number : ℕ) → (h : HasReplayed limit r0 r w0 w mid view) → mid.taken ≤ 2 ^ 32 → number ≡ mid.number + 1 →
     ((more : List ℕ) → (IsTrue mid.ended → more ≡ []) → HasBadNext (h.bytes ++ more) h.lines) → Appends w w' (line_of_pieces (malformed_pieces number)) → StopsAtLine limit r0 r w0 w'
-stopped limit r0 r w0 w w' mid view number h e next written =
+stopped limit r0 r w0 w w' mid view number h few e next written =
     let place : number ≡ length h.lines + 1 = e ∙ ap (λ n. n + 1) h.numbered in
     record {
       bytes = h.bytes;
       taken = h.taken;
+      few = rw h.counted at few;
       ended = mid.ended;
       at_end = h.at_end;
       lines = h.lines;
@@ -208,8 +210,32 @@ long_line limit r0 r w0 w mid view h long more ended =
       is_bad = inr (omega arith);
     }
 
-pub limit_reached : (limit : ℕ) (r0 r w0 w : Option (List ℕ)) (mid : Reading) (view : View) → HasReplayed limit r0 r w0 w mid view → mid.taken ≡ 2 ^ 32 → HasReachedLimit r0 r
-limit_reached limit r0 r w0 w mid view h many = record { bytes = h.bytes; taken = h.taken; many = sym h.counted ∙ many }
+never_both : (b : Bool) → IsFalse b → IsTrue b → ⊥
+never_both b is_false is_true = let both : false ≡ true = sym is_false ∙ is_true in cc
+
+-- no more lines are whole
+cut_off : (limit : ℕ) (r0 r w0 w : Option (List ℕ)) (mid : Reading) (view : View) → (h : HasReplayed limit r0 r w0 w mid view) → IsUnfinished mid → IsCutOff limit r0 r w0 w h.bytes
+cut_off limit r0 r w0 w mid view h unfinished = record {
+  taken = h.taken;
+  lines = h.lines;
+  begun = mid.pending;
+  cut = λ more. h.cut more (λ told. absurd (never_both mid.ended unfinished.not_ended told));
+  no_lf = unfinished.no_lf;
+  short = unfinished.short;
+  commands = h.commands;
+  read = h.read;
+  outputs = h.outputs;
+  state = h.state;
+  lawful = h.lawful;
+  spelled = h.spelled;
+  written = h.written;
+}
+
+pub read_failed : (limit : ℕ) (r0 r w0 w : Option (List ℕ)) (mid : Reading) (view : View) → HasReplayed limit r0 r w0 w mid view → IsUnfinished mid → mid.taken < 2 ^ 32 → HasFailedRead limit r0 r w0 w
+read_failed limit r0 r w0 w mid view h unfinished few = record { bytes = h.bytes; few = rw h.counted at few; cut_off = cut_off limit r0 r w0 w mid view h unfinished }
+
+pub limit_reached : (limit : ℕ) (r0 r w0 w : Option (List ℕ)) (mid : Reading) (view : View) → HasReplayed limit r0 r w0 w mid view → IsUnfinished mid → mid.taken ≡ 2 ^ 32 → HasReachedLimit limit r0 r w0 w
+limit_reached limit r0 r w0 w mid view h unfinished many = record { bytes = h.bytes; many = sym h.counted ∙ many; cut_off = cut_off limit r0 r w0 w mid view h unfinished }
 
 -- what is left of a whole input
 record IsRest (rest_before rest_after : Option (List ℕ)) (bytes taken : List ℕ) : Type 0 where
@@ -233,9 +259,9 @@ no_stop limit r0 r w0 w input stop =
     let bad = stop.next rest.more (λ told. rw rest.left at (stop.at_end told)) in
     AreCommands-bad stop.lines bad.others bad.bad input.commands bad.is_bad (rw (rest.whole, bad.cut) at input.read)
 
-pub no_limit : (r0 r : Option (List ℕ)) → IsWholeInput r0 → HasReachedLimit r0 r → ⊥
-no_limit r0 r input reached =
-    let rest = rest_of r0 r input.bytes reached.bytes input.told reached.taken in
+pub no_limit : (limit : ℕ) (r0 r w0 w : Option (List ℕ)) → IsWholeInput r0 → HasReachedLimit limit r0 r w0 w → ⊥
+no_limit limit r0 r w0 w input reached =
+    let rest = rest_of r0 r input.bytes reached.bytes input.told reached.cut_off.taken in
     omega (arith, input.few, reached.many, ap length rest.whole, length-append reached.bytes rest.more)
 
 -- no other end is left

@@ -7,7 +7,7 @@ use Rattle.space_io.specs.Causes.{Rose}
 use Rattle.space_model.specs.declared.command.Command.{Command}
 use Rattle.space_model.specs.Grammar.{Commands, AreCommands, IsReading, IsNumber}
 use Rattle.space_model.specs.Lawful.{LawfulAll}
-use Rattle.space_model.specs.Lines.{lines_of, MOST_BYTES}
+use Rattle.space_model.specs.Lines.{lines_of, HasNoLf, MOST_BYTES}
 use Rattle.space_model.specs.Outputs.{Output}
 use Rattle.space_model.specs.State.{State, opening}
 use Rattle.space_model.specs.Texts.{text_of, AreSpelled, line_of_pieces, malformed_pieces}
@@ -21,11 +21,12 @@ IsReplayText texts limit =
 abbrev pub IsReplay : List (String Global) → ℕ → Type 0
 IsReplay words limit = IsReplayText (map string_bytes words) limit
 
--- The source was read to its end. The bytes taken are commands, and the bytes written are the text of outputs that
+-- The source was read to its end, before as many bytes were taken as may be. The bytes taken are commands, and the bytes written are the text of outputs that
 -- are lawful for exactly these commands, from the opening on.
 pub record Replays (limit : ℕ) (rest_before rest_after written_before written_after : Option (List ℕ)) : Type 0 where
   pub bytes : List ℕ
   pub taken : Consumes rest_before rest_after bytes
+  pub few : length bytes < 2 ^ 32
   pub at_end : IsAtEnd rest_after
   pub commands : List Command
   pub read : Commands bytes commands
@@ -52,6 +53,7 @@ pub record HasBadNext (bytes : List ℕ) (lines : List (List ℕ)) : Type 0 wher
 pub record StopsAtLine (limit : ℕ) (rest_before rest_after written_before written_after : Option (List ℕ)) : Type 0 where
   pub bytes : List ℕ
   pub taken : Consumes rest_before rest_after bytes
+  pub few : length bytes ≤ 2 ^ 32
   pub ended : Bool
   pub at_end : IsTrue ended → IsAtEnd rest_after
   pub lines : List (List ℕ)
@@ -64,11 +66,34 @@ pub record StopsAtLine (limit : ℕ) (rest_before rest_after written_before writ
   pub spelled : AreSpelled outputs
   pub written : Appends written_before written_after (text_of outputs ++ line_of_pieces (malformed_pieces (length lines + 1)))
 
--- as many bytes were taken as may be, without an end
-pub record HasReachedLimit (rest_before rest_after : Option (List ℕ)) : Type 0 where
-  pub bytes : List ℕ
+-- The end wasn't reached. The bytes taken are whole lines, each of which is answered, and then the start of a line that
+-- may still be well formed.
+pub record IsCutOff (limit : ℕ) (rest_before rest_after written_before written_after : Option (List ℕ)) (bytes : List ℕ) : Type 0 where
   pub taken : Consumes rest_before rest_after bytes
+  pub lines : List (List ℕ)
+  pub begun : List ℕ
+  pub cut : (more : List ℕ) → lines_of (bytes ++ more) ≡ lines ++ lines_of (begun ++ more)
+  pub no_lf : HasNoLf begun
+  pub short : length begun ≤ MOST_BYTES
+  pub commands : List Command
+  pub read : AreCommands lines commands
+  pub outputs : List Output
+  pub state : State
+  pub lawful : LawfulAll (opening limit) commands outputs state
+  pub spelled : AreSpelled outputs
+  pub written : Appends written_before written_after (text_of outputs)
+
+-- a read failed before as many bytes were taken as may be
+pub record HasFailedRead (limit : ℕ) (rest_before rest_after written_before written_after : Option (List ℕ)) : Type 0 where
+  pub bytes : List ℕ
+  pub few : length bytes < 2 ^ 32
+  pub cut_off : IsCutOff limit rest_before rest_after written_before written_after bytes
+
+-- as many bytes were taken as may be, without an end
+pub record HasReachedLimit (limit : ℕ) (rest_before rest_after written_before written_after : Option (List ℕ)) : Type 0 where
+  pub bytes : List ℕ
   pub many : length bytes ≡ 2 ^ 32
+  pub cut_off : IsCutOff limit rest_before rest_after written_before written_after bytes
 
 -- the source tells its bytes, each line of which is lawful, and they are fewer than may be taken
 pub record IsWholeInput (rest_before : Option (List ℕ)) : Type 0 where

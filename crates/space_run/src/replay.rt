@@ -7,7 +7,7 @@ ghost use Rattle.space_io.specs.Reading.{at_start};
 ghost use Rattle.space_model.specs.Grammar.{IsNumber};
 ghost use Rattle.space_model.specs.State.{opening};
 ghost use Rattle.space_model.specs.Texts.{line_of_pieces, malformed_pieces};
-ghost use Rattle.space_run.specs.Replays.{Replays, StopsAtLine, HasReachedLimit, IsReplay, IsWholeInput, IsCalm};
+ghost use Rattle.space_run.specs.Replays.{Replays, StopsAtLine, HasFailedRead, HasReachedLimit, IsReplay, IsWholeInput, IsCalm};
 ghost use Rattle.space_run.specs.Stands.{Stands};
 ghost use Rattle.space_run.specs.Views.{empty_view};
 
@@ -50,8 +50,11 @@ fn replay<S: Source, K: Sink>(
     ensures done { result ≡ 0 → Replays space.limit (S.rest source.old) (S.rest source.new) (K.written sink.old) (K.written sink.new) }
     ensures malformed { result ≡ 3 → StopsAtLine space.limit (S.rest source.old) (S.rest source.new) (K.written sink.old) (K.written sink.new) }
     ensures read_fault { result ≡ 4 → Rose (S.faults source.old) (S.faults source.new) }
+    ensures answered { result ≡ 4 → HasFailedRead space.limit (S.rest source.old) (S.rest source.new) (K.written sink.old) (K.written sink.new) }
     ensures write_fault { result ≡ 5 → Rose (K.faults sink.old) (K.faults sink.new) }
-    ensures limit { result ≡ 6 → HasReachedLimit (S.rest source.old) (S.rest source.new) }
+    ensures limit { result ≡ 6 → HasReachedLimit space.limit (S.rest source.old) (S.rest source.new) (K.written sink.old) (K.written sink.new) }
+    ensures reads_counted { S.faults source.old ≤ S.faults source.new }
+    ensures writes_counted { K.faults sink.old ≤ K.faults sink.new }
 {
     let mut number = 0;
     'each_line: loop {
@@ -123,9 +126,9 @@ fn page_limit(words: &Vec<String>) -> Option<u32>
 /// | 1 | memory was lacking before anything was read or written |
 /// | 2 | the words are no command; nothing is read or written |
 /// | 3 | a line is malformed or too long; those before it are answered |
-/// | 4 | a read failed |
+/// | 4 | a read failed; each whole line that came before is answered |
 /// | 5 | a write failed |
-/// | 6 | 2^32 bytes were taken without an end |
+/// | 6 | 2^32 bytes were taken without an end; each whole line of them is answered |
 pub fn run<S: Source, K: Sink>(
     alloc: Global,
     words: &Vec<String>,
@@ -146,9 +149,14 @@ pub fn run<S: Source, K: Sink>(
     // Every other end has its cause.
     ensures malformed { (limit : ℕ) → IsReplay words.now.items limit → result ≡ 3 → StopsAtLine limit (S.rest source.old) (S.rest source.new) (K.written sink.old) (K.written sink.new) }
     ensures read_fault { result ≡ 4 → Rose (S.faults source.old) (S.faults source.new) }
+    ensures answered { (limit : ℕ) → IsReplay words.now.items limit → result ≡ 4 → HasFailedRead limit (S.rest source.old) (S.rest source.new) (K.written sink.old) (K.written sink.new) }
     ensures write_fault { result ≡ 5 → Rose (K.faults sink.old) (K.faults sink.new) }
-    ensures limit { result ≡ 6 → HasReachedLimit (S.rest source.old) (S.rest source.new) }
+    ensures limit { (limit : ℕ) → IsReplay words.now.items limit → result ≡ 6 → HasReachedLimit limit (S.rest source.old) (S.rest source.new) (K.written sink.old) (K.written sink.new) }
     ensures status { result ≤ 6 }
+
+    // The counts of faults never fall.
+    ensures reads_counted { S.faults source.old ≤ S.faults source.new }
+    ensures writes_counted { K.faults sink.old ≤ K.faults sink.new }
 
     // A lawful input, without faults, is replayed to its end, where there is memory to begin with.
     ensures complete { (limit : ℕ) → IsReplay words.now.items limit → IsWholeInput (S.rest source.old) → IsCalm (S.faults source.old) (S.faults source.new) (K.faults sink.old) (K.faults sink.new) → (result ≡ 0) ⊎ (result ≡ 1) }

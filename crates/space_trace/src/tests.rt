@@ -33,7 +33,7 @@ const FORMS: [(&[u8], &[u8]); 12] = [
 // Lines without a command.
 const BLANK: [&[u8]; 5] = [b"", b"\r", b";", b"; a comment", b";same a b\r"];
 
-const MALFORMED: [&[u8]; 25] = [
+const MALFORMED: [&[u8]; 26] = [
     b" ",
     b" ; a comment",
     b"\r\r",
@@ -205,6 +205,22 @@ fn outputs_have_their_texts(rt: HostRuntime) -> Result<(), Fail> {
     for (reply, text) in REPLIES {
         let mut sink = small_sink(rt.alloc())?;
         assert!(rt; write_reply(&reply, &mut sink).is_ok());
+        assert!(rt; sink.bytes() == text);
+    }
+    Ok(())
+}
+
+#[test]
+fn an_output_is_one_piece(rt: HostRuntime) -> Result<(), Fail> {
+    // The second call of the sink would fail.
+    for (reply, text) in REPLIES {
+        let mut sink = MemorySink::new(rt.alloc(), 300, 300, [2u64].to_vec(rt.alloc())?)?;
+        assert!(rt; write_reply(&reply, &mut sink).is_ok());
+        assert!(rt; sink.bytes() == text);
+    }
+    for (event, text) in EVENTS {
+        let mut sink = MemorySink::new(rt.alloc(), 300, 300, [2u64].to_vec(rt.alloc())?)?;
+        assert!(rt; write_event(&event, &mut sink).is_ok());
         assert!(rt; sink.bytes() == text);
     }
     Ok(())

@@ -29,7 +29,7 @@ fn write_line<K: Sink>(line: &mut Line, sink: &mut K) -> Result<(), WriteFault>
 
 /// Writes the line of the command. At an `Err` a prefix of it was written.
 ///
-/// A command that no line spells is written too, and `read_command` finds its line malformed.
+/// A command that no line spells is written too; no clause says how its line is read.
 pub fn write_command<K: Sink>(command: &Command, sink: &mut K) -> Result<(), WriteFault>
     ensures bytes { OnOk result (Appends (K.written sink.old) (K.written sink.new) (line_of_pieces (command_pieces command.now))) }
     ensures prefix { AppendsPrefix (K.written sink.old) (K.written sink.new) (line_of_pieces (command_pieces command.now)) }

@@ -2,7 +2,7 @@ use Rattle.std.proofs.Common.{arith, rules, subst, sym, ap, ◌∙◌, ◌+◌}
 use Rattle.space_io.specs.Reading.{at_start}
 use Rattle.space_run.specs.Progress.{HasReplayed}
 use Rattle.space_run.specs.Views.{View}
-use Rattle.space_run.proofs.Replaying.{started, after_taking, after_line, after_blank, at_the_end, kept_promise, stopped, malformed_line, long_line, limit_reached}
+use Rattle.space_run.proofs.Replaying.{started, after_taking, after_line, after_blank, at_the_end, kept_promise, stopped, malformed_line, long_line, read_failed, limit_reached}
 use Rattle.space_run.proofs.replay.replay.Goals as goal
 
 pub each_line-init : goal.each_line-init
@@ -28,7 +28,14 @@ returns-in-Err-InputLimit-clause-limit g c =
     let next = c.next.follows.holds-at-none in
     let fault = rw c.in-Err-InputLimit.is at next.fault in
     let limit = rw c.in-Err-InputLimit.field-0-is at fault.0 in
-    λ _. limit_reached c.args.space.limit _ _ _ _ next.mid _ (after_taking c.args.space.limit _ _ _ _ _ _ _ _ c.each_line.invariant.done next.takes) limit.1
+    λ _. limit_reached c.args.space.limit _ _ _ _ next.mid _ (after_taking c.args.space.limit _ _ _ _ _ _ _ _ c.each_line.invariant.done next.takes) limit.0 limit.1
+
+pub returns-in-Err-ReadFault-clause-answered : goal.returns-in-Err-ReadFault-clause-answered
+returns-in-Err-ReadFault-clause-answered g c =
+    let next = c.next.follows.holds-at-none in
+    let fault = rw c.in-Err-ReadFault.is at next.fault in
+    let failed = rw c.in-Err-ReadFault.field-0-is at fault.0 in
+    λ _. read_failed c.args.space.limit _ _ _ _ next.mid _ (after_taking c.args.space.limit _ _ _ _ _ _ _ _ c.each_line.invariant.done next.takes) failed.0 failed.1
 
 pub returns-in_default-clause-malformed : goal.returns-in_default-clause-malformed
 returns-in_default-clause-malformed g c =
@@ -36,7 +43,7 @@ returns-in_default-clause-malformed g c =
     let found = rw c.in-Ok-Some.is at next.line in
     let line = rw c.in-Ok-Some.field-0-is at found in
     let done = after_taking c.args.space.limit _ _ _ _ _ _ _ _ c.each_line.invariant.done next.takes in
-    λ three. stopped c.args.space.limit _ _ _ _ _ next.mid _ c.in-Ok-Some.line.number done (line.number ∙ line.gives.number)
+    λ three. stopped c.args.space.limit _ _ _ _ _ next.mid _ c.in-Ok-Some.line.number done (rw line.gives.taken at next.most) (line.number ∙ line.gives.number)
     (malformed_line c.args.space.limit _ _ _ _ next.mid _ _ done line.gives (rw line.bytes at c.in_default.ensures.malformed))
     (c.stop_at-in_default.ensures.written three)
 
@@ -46,7 +53,7 @@ returns-in-Err-TooLong-clause-malformed g c =
     let fault = rw c.in-Err-TooLong.is at next.fault in
     let long = rw c.in-Err-TooLong.field-0-is at fault.0 in
     let done = after_taking c.args.space.limit _ _ _ _ _ _ _ _ c.each_line.invariant.done next.takes in
-    λ three. stopped c.args.space.limit _ _ _ _ _ next.mid _ (c.each_line.number + 1) done (ap (λ n. n + 1) (c.each_line.invariant.numbered ∙ sym next.takes.number))
+    λ three. stopped c.args.space.limit _ _ _ _ _ next.mid _ (c.each_line.number + 1) done (rw fault.1 at next.most) (ap (λ n. n + 1) (c.each_line.invariant.numbered ∙ sym next.takes.number))
     (long_line c.args.space.limit _ _ _ _ next.mid _ done long)
     (c.stop_at.ensures.written three)
 
