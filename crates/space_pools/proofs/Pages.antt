@@ -1,0 +1,176 @@
+-- What the fields of a page tell of its slots.
+use Rattle.std.proofs.Common.{◌≡◌, ◌≢◌, ⊎_elim, ℕ, zero, suc, ◌+◌, ◌<◌, ◌≤◌, Bool, true, false, cond, List, [], length, map, replicate, get_or, set, refl, sym, ap, ◌∙◌, subst, arith, true≢false, Option, None, Some}
+use Rattle.std.specs.Prelude.{◌*◌, ◌-◌, ◌++◌, take, drop, is_none, is_some}
+use Rattle.std.specs.Simd.Lanes.{put_chunk}
+use Rattle.std.proofs.Math.Nat.{mul-le-mul_left}
+use Rattle.std.specs.List.{range_with_len}
+use Rattle.std.proofs.lemmas.Bool.{cases_eq, cases_lt, cond-true, cond-false}
+use Rattle.std.proofs.lemmas.List.{get_or-set_same, get_or-set_other, length-set, length-replicate, get_or-replicate, get_or_past}
+use Rattle.std.proofs.lemmas.List.FromFn.{length-map-range_with_len, get_or-map-range_with_len, fill_by_all}
+use Rattle.space_model.specs.Layout.{page_slots, slot_bytes}
+use Rattle.space_planes.specs.Planes.{bit}
+use Rattle.space_pages.specs.Slots.{words_of, slot_words, with_slot}
+use Rattle.space_pages.proofs.SlotLaws.{length-slot_words}
+use Rattle.space_pools.proofs.Spreads.{over, part_below, part_within, below_written, past_written, length-written}
+use Rattle.space_pools.specs.declared.pool_page.PoolPage.TheInside.{Inside}
+use Rattle.space_pools.specs.PageSlots.{PageSlots, HoldsSlots, width_of, spread, written_in, free_page, count_of, free_in, taken_in, found_in, with_found_in}
+use Rattle.space_pools.specs.Inside.{IsPoolPage, slot_on, found_from, page_from}
+
+pub length-slots : (p : Inside) → length (page_from p).slots ≡ length p.free
+length-slots p = length-map-range_with_len (found_from p) 0 (length p.free)
+
+pub slot_is : (p : Inside) (slot : ℕ) (d : Option (List ℕ)) → slot < length p.free → get_or (page_from p).slots slot d ≡ found_from p slot
+slot_is p slot d within = get_or-map-range_with_len (found_from p) 0 (length p.free) slot slot d within (omega arith)
+
+pub slot_past : (p : Inside) (slot : ℕ) (d : Option (List ℕ)) → length p.free ≤ slot → get_or (page_from p).slots slot d ≡ d
+slot_past p slot d past = get_or_past (page_from p).slots slot d (let n = length-slots p in omega arith)
+
+from_bit : (b : Bool) (words : List ℕ) → is_none (cond b None (Some words)) ≡ b
+from_bit true words = refl
+from_bit false words = refl
+
+-- a slot is free exactly where its bit is 1
+pub free_is : (p : Inside) (slot : ℕ) → free_in (page_from p) slot ≡ bit p.free slot
+free_is p slot = ⊎_elim
+    (λ within. ap is_none (slot_is p slot (Some []) within) ∙ from_bit (bit p.free slot) (slot_on p.pool p.words slot))
+    (λ past. ap is_none (slot_past p slot (Some []) past) ∙ sym (get_or_past p.free slot false past))
+    (cases_lt slot (length p.free))
+
+pub most_slots : (pool : ℕ) → pool < 5 → page_slots pool ≤ 1638
+unfolding page_slots slot_bytes
+most_slots zero known = omega arith
+most_slots (suc zero) known = omega arith
+most_slots (suc (suc zero)) known = omega arith
+most_slots (suc (suc (suc zero))) known = omega arith
+most_slots (suc (suc (suc (suc zero)))) known = omega arith
+most_slots (suc (suc (suc (suc (suc pool))))) known = absurd (omega arith)
+
+-- a slot whose bit is 0 has its words
+pub found_is : (p : Inside) (slot : ℕ) → slot < length p.free → bit p.free slot ≡ false → found_in (page_from p) slot ≡ Some (slot_on p.pool p.words slot)
+found_is p slot within clear = slot_is p slot None within ∙ cond-false (bit p.free slot) None _ clear
+
+from_some : (b : Bool) (words : List ℕ) → is_some (cond b None (Some words)) ≡ true → b ≡ false
+from_some true words h = sym h
+from_some false words h = refl
+
+-- a slot that isn't free is within the page, and its bit is 0
+pub taken_is : (p : Inside) (slot : ℕ) → taken_in (page_from p) slot ≡ true → (slot < length p.free) × (bit p.free slot ≡ false)
+taken_is p slot taken = ⊎_elim
+    (λ within. (within, from_some (bit p.free slot) _ (sym (ap is_some (slot_is p slot None within)) ∙ taken)))
+    (λ past. absurd (true≢false (sym taken ∙ ap is_some (slot_past p slot None past))))
+    (cases_lt slot (length p.free))
+
+pub taken_from : (p : PageSlots) (slot : ℕ) (found : List ℕ) → found_in p slot ≡ Some found → taken_in p slot ≡ true
+taken_from p slot found e = ap is_some e
+
+-- a page with a slot has a pool
+pub has_pool : (pool : Option ℕ) (slot : ℕ) → slot < count_of pool → is_some pool ≡ true
+has_pool None slot h = absurd (omega arith)
+has_pool (Some pool) slot h = refl
+
+-- one slot changes
+pub one_slot : (p q : Inside) (slot : ℕ) (found : Option (List ℕ)) → q.pool ≡ p.pool → length q.free ≡ length p.free → slot < length p.free → found_from q slot ≡ found → ((k : ℕ) → k < length p.free → k ≢ slot → found_from q k ≡ found_from p k) → page_from q ≡ with_found_in (page_from p) slot found
+one_slot p q slot found pool long within here other =
+    let xs : List (Option (List ℕ)) = set (page_from p).slots slot found in
+    let all : length xs ≡ length q.free = length-set (page_from p).slots slot found ∙ length-slots p ∙ sym long in
+    let each : (k : ℕ) → k < length q.free → get_or xs k None ≡ found_from q k = λ k m. ⊎_elim
+    (λ e. subst (λ x. get_or xs x None ≡ found_from q x) (sym e) (get_or-set_same (page_from p).slots slot found None (let n = length-slots p in omega arith) ∙ sym here))
+    (λ d. get_or-set_other (page_from p).slots slot k found None d ∙ slot_is p k None (omega arith) ∙ sym (other k (omega arith) d))
+    (cases_eq k slot) in
+    let e : xs ≡ map (found_from q) (range_with_len 0 (length q.free)) = fill_by_all (found_from q) xs (length q.free) None all each in
+    λ i. record { pool = pool i; slots = sym e i }
+
+-- every slot is free
+pub all_free : (q : Inside) (pool : ℕ) → q.pool ≡ Some pool → q.free ≡ replicate (page_slots pool) true → page_from q ≡ free_page pool
+all_free q pool its free =
+    let xs : List (Option (List ℕ)) = replicate (page_slots pool) None in
+    let long : length q.free ≡ page_slots pool = ap length free ∙ length-replicate (page_slots pool) true in
+    let all : length xs ≡ length q.free = length-replicate (page_slots pool) None ∙ sym long in
+    let each : (k : ℕ) → k < length q.free → get_or xs k None ≡ found_from q k = λ k m.
+    let one : bit q.free k ≡ true = ap (λ plane. bit plane k) free ∙ get_or-replicate (page_slots pool) k true false (omega arith) in
+    get_or-replicate (page_slots pool) k None None (omega arith) ∙ sym (cond-true (bit q.free k) None (Some (slot_on q.pool q.words k)) one) in
+    let e : xs ≡ map (found_from q) (range_with_len 0 (length q.free)) = fill_by_all (found_from q) xs (length q.free) None all each in
+    λ i. record { pool = its i; slots = sym e i }
+
+-- a page with no free slot from its start on
+pub full_from : (p : Inside) (slot : ℕ) → IsPoolPage p → length p.free ≤ p.lowest → bit p.free slot ≡ false
+full_from p slot h past = ⊎_elim
+    (λ below. h.clear_below slot below)
+    (λ above. get_or_past p.free slot false (omega arith))
+    (cases_lt slot p.lowest)
+
+long_on : (pool : Option ℕ) (words : List ℕ) (slot : ℕ) → length words ≡ 8192 → ((k : ℕ) → pool ≡ Some k → k < 5) → slot < count_of pool → length (slot_on pool words slot) ≡ width_of pool
+long_on None words slot whole known within = absurd (omega arith)
+long_on (Some pool) words slot whole known within = length-slot_words words pool slot whole (known pool refl) within
+
+pub long_slot : (p : Inside) (slot : ℕ) → IsPoolPage p → slot < length p.free → length (slot_on p.pool p.words slot) ≡ width_of p.pool
+long_slot p slot h within = long_on p.pool p.words slot h.whole h.known (let l = h.long in omega arith)
+
+pub holds : (p : Inside) → HoldsSlots (page_from p) p.words
+holds p pool slot found its e =
+    let t = taken_is p slot (ap is_some e) in
+    let f = found_is p slot t.0 t.1 in
+    let on : slot_on p.pool p.words slot ≡ slot_words p.words pool slot = ap (λ o. slot_on o p.words slot) its in
+    cc
+
+-- the words that a slot is found with, on a page of this pool
+pub found_on : (p : Inside) (pool slot : ℕ) → p.pool ≡ Some pool → taken_in (page_from p) slot ≡ true → found_in (page_from p) slot ≡ Some (slot_words p.words pool slot)
+found_on p pool slot its taken =
+    let t = taken_is p slot taken in
+    found_is p slot t.0 t.1 ∙ ap Some (ap (λ o. slot_on o p.words slot) its)
+
+pub slot_within : (p : Inside) (pool slot : ℕ) → IsPoolPage p → p.pool ≡ Some pool → taken_in (page_from p) slot ≡ true → slot < page_slots pool
+slot_within p pool slot h its taken =
+    let t = (taken_is p slot taken).0 in
+    let l = h.long in
+    let e : count_of p.pool ≡ page_slots pool = ap count_of its in
+    omega arith
+
+module _ (p : Inside) (pool slot : ℕ) (ws : List ℕ) (its : p.pool ≡ Some pool) (within : slot < length p.free) where
+  abbrev after : Inside
+  after = record p { words = with_slot p.words pool slot ws }
+
+  abbrev xs : List (Option (List ℕ))
+  xs = (page_from p).slots
+
+  abbrev n : ℕ
+  n = words_of pool
+
+  known_found : (k : ℕ) → found_from p k ≡ cond (bit p.free k) None (Some (slot_words p.words pool k))
+  known_found k = ap (λ o. cond (bit p.free k) None (Some (slot_on o p.words k))) its
+
+  after_found : (k : ℕ) → found_from after k ≡ cond (bit p.free k) None (Some (slot_words (with_slot p.words pool slot ws) pool k))
+  after_found k = ap (λ o. cond (bit p.free k) None (Some (slot_on o (with_slot p.words pool slot ws) k))) its
+
+  over_cond : (b : Bool) (vs old : List ℕ) → over vs (cond b None (Some old)) ≡ cond b None (Some (put_chunk 0 old vs))
+  over_cond true vs old = refl
+  over_cond false vs old = refl
+
+  each : (k : ℕ) → k < length p.free → get_or (take slot xs ++ spread n ws (drop slot xs)) k None ≡ found_from after k
+  each k h = ⊎_elim
+      (λ below.
+      let fits = mul-le-mul_left {m = k + 1} {n = slot} n (omega arith) in
+      below_written n slot ws xs k (let l = length-slots p in omega arith) below
+      ∙ slot_is p k None h
+      ∙ known_found k
+      ∙ ap (λ found. cond (bit p.free k) None (Some found)) (sym (part_below (n * k) n (n * slot) p.words ws (omega arith)))
+      ∙ sym (after_found k))
+      (λ above.
+      let at : k ≡ slot + (k - slot) = omega arith in
+      let place : n * k ≡ n * slot + n * (k - slot) = ap (λ i. n * i) at ∙ omega arith in
+      past_written n slot ws xs k (k - slot) (let l = length-slots p in omega arith) at
+      ∙ ap (over (drop (n * (k - slot)) ws)) (slot_is p k None h ∙ known_found k)
+      ∙ over_cond (bit p.free k) (drop (n * (k - slot)) ws) (slot_words p.words pool k)
+      ∙ ap (λ found. cond (bit p.free k) None (Some found)) (sym (part_within (n * k) n (n * slot) (n * (k - slot)) p.words ws place))
+      ∙ sym (after_found k))
+      (cases_lt k slot)
+
+  -- the page after a slot of it was lent
+  pub lent : page_from after ≡ written_in (page_from p) slot ws
+  unfolding written_in
+  lent =
+      let ys : List (Option (List ℕ)) = take slot xs ++ spread (width_of p.pool) ws (drop slot xs) in
+      let width : width_of p.pool ≡ n = ap width_of its in
+      let all : length ys ≡ length p.free = length-written (width_of p.pool) slot ws xs ∙ length-slots p in
+      let e : ys ≡ map (found_from after) (range_with_len 0 (length p.free)) = fill_by_all (found_from after) ys (length p.free) None all (λ k h. ap (λ m. get_or (take slot xs ++ spread m ws (drop slot xs)) k None) width ∙ each k h) in
+      λ i. record { pool = p.pool; slots = sym e i }

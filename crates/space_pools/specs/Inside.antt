@@ -1,0 +1,28 @@
+-- What the fields of a page stand for, and what holds of them.
+use Rattle.std.specs.Prelude.{◌≡◌, ℕ, ◌<◌, ◌≤◌, true, false, List, [], length, map, Option, None, Some, if◌then◌else◌}
+use Rattle.std.specs.List.{range_with_len}
+use Rattle.space_planes.specs.Planes.{bit}
+use Rattle.space_pages.specs.Slots.{slot_words}
+use Rattle.space_pools.specs.declared.pool_page.PoolPage.TheInside.{Inside}
+use Rattle.space_pools.specs.PageSlots.{PageSlots, count_of}
+
+-- the words of a slot, on a page of this pool, if it has one
+abbrev pub slot_on : Option ℕ → List ℕ → ℕ → List ℕ
+slot_on None words slot = []
+slot_on (Some pool) words slot = slot_words words pool slot
+
+-- what is found in a slot
+abbrev pub found_from : Inside → ℕ → Option (List ℕ)
+found_from p slot = if bit p.free slot then None else Some (slot_on p.pool p.words slot)
+
+abbrev pub page_from : Inside → PageSlots
+page_from p = record { pool = p.pool; slots = map (found_from p) (range_with_len 0 (length p.free)) }
+
+pub record IsPoolPage (p : Inside) : Type 0 where
+  pub whole : length p.words ≡ 8192
+  pub known : (pool : ℕ) → p.pool ≡ Some pool → pool < 5
+  pub long : length p.free ≡ count_of p.pool
+  -- the first free slot, and the number of slots where none is free
+  pub within : p.lowest ≤ length p.free
+  pub clear_below : (slot : ℕ) → slot < p.lowest → bit p.free slot ≡ false
+  pub set_at : p.lowest < length p.free → bit p.free p.lowest ≡ true

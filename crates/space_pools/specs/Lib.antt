@@ -1,0 +1,9 @@
+pub mod PageSlots
+pub mod PageLending
+pub mod Inside
+pub mod PoolsView
+pub mod Free
+pub mod Spare
+pub mod Sound
+pub mod InsidePools
+pub mod Lending

@@ -1,0 +1,72 @@
+-- What a contract sees of one page: its pool and its slots.
+use Rattle.std.specs.Prelude.{◌≡◌, ℕ, ◌<◌, Bool, true, false, List, [], ◌∷◌, ◌++◌, length, take, drop, replicate, is_none, is_some, Option, None, Some, option_map, slice_index_or, slice_set}
+use Rattle.std.specs.Simd.Lanes.{put_chunk}
+use Rattle.space_model.specs.Layout.{page_slots}
+use Rattle.space_pages.specs.Slots.{words_of, slot_words}
+
+-- a page: its pool, which a spare page has none of, and what is found in each slot: nothing where it is free, and else its words
+pub record PageSlots : Type 0 where
+  pub pool : Option ℕ
+  pub slots : List (Option (List ℕ))
+
+-- a spare page
+abbrev pub spare_page : PageSlots
+spare_page = record { pool = None; slots = [] }
+
+-- a page of the pool whose slots are all free
+abbrev pub free_page : ℕ → PageSlots
+free_page pool = record { pool = Some pool; slots = replicate (page_slots pool) None }
+
+-- how many words a slot of such a page has
+abbrev pub width_of : Option ℕ → ℕ
+width_of None = 0
+width_of (Some pool) = words_of pool
+
+-- how many slots such a page has
+abbrev pub count_of : Option ℕ → ℕ
+count_of None = 0
+count_of (Some pool) = page_slots pool
+
+-- whether the page has this slot and it is free
+abbrev pub free_in : PageSlots → ℕ → Bool
+free_in p slot = is_none (slice_index_or p.slots slot (Some []))
+
+-- whether the page has this slot and it isn't free
+abbrev pub taken_in : PageSlots → ℕ → Bool
+taken_in p slot = is_some (slice_index_or p.slots slot None)
+
+-- the words of a slot that isn't free
+abbrev pub found_in : PageSlots → ℕ → Option (List ℕ)
+found_in p slot = slice_index_or p.slots slot None
+
+-- the page after this was put into a slot
+abbrev pub with_found_in : PageSlots → ℕ → Option (List ℕ) → PageSlots
+with_found_in p slot found = record p { slots = slice_set p.slots slot found }
+
+-- the words of each slot that isn't free stand in its place among these words of a page
+abbrev pub HoldsSlots : PageSlots → List ℕ → Type 0
+HoldsSlots p words = (pool slot : ℕ) (found : List ℕ) → p.pool ≡ Some pool → found_in p slot ≡ Some found → slot_words words pool slot ≡ found
+
+-- no slot of the page is free
+abbrev pub IsFullPage : PageSlots → Type 0
+IsFullPage p = (slot : ℕ) → free_in p slot ≡ false
+
+-- the slot is the first free one of the page
+pub record IsFirstFree (p : PageSlots) (slot : ℕ) : Type 0 where
+  pub is_free : free_in p slot ≡ true
+  pub below : (other : ℕ) → other < slot → free_in p other ≡ false
+
+-- q is the page after a slot got words, which aren't told, and so isn't free
+pub record TakesSlot (p q : PageSlots) (slot : ℕ) : Type 0 where
+  pub words : List ℕ
+  pub long : length words ≡ width_of p.pool
+  pub becomes : q ≡ with_found_in p slot (Some words)
+
+-- slots of n words each after words were written over them, from the first one on; free ones stay free
+abbrev pub spread : ℕ → List ℕ → List (Option (List ℕ)) → List (Option (List ℕ))
+spread n words [] = []
+spread n words (found ∷ rest) = option_map (λ old. put_chunk 0 old words) found ∷ spread n (drop n words) rest
+
+-- the page after words were written from the start of a slot on: where they are as many as the slot has, they are its words, and all else stays
+unfoldable pub written_in : PageSlots → ℕ → List ℕ → PageSlots
+written_in p slot words = record p { slots = take slot p.slots ++ spread (width_of p.pool) words (drop slot p.slots) }

@@ -1,0 +1,15 @@
+-- What holds of all pools: their pages are within the limit, and each has the slots of its pool.
+use Rattle.std.specs.Prelude.{◌≡◌, ℕ, ◌<◌, ◌≤◌, List, length, Some}
+use Rattle.space_pools.specs.PageSlots.{PageSlots, found_in, count_of, width_of}
+use Rattle.space_pools.specs.PoolsView.{PoolsView, page_at}
+
+pub record IsSoundPage (p : PageSlots) : Type 0 where
+  pub known : (pool : ℕ) → p.pool ≡ Some pool → pool < 5
+  pub long : length p.slots ≡ count_of p.pool
+  pub wide : (slot : ℕ) (words : List ℕ) → found_in p slot ≡ Some words → length words ≡ width_of p.pool
+
+pub record IsSoundPools (v : PoolsView) : Type 0 where
+  pub some : 0 < v.limit
+  pub most : v.limit ≤ 4096
+  pub limited : length v.pages ≤ v.limit
+  pub sound : (page : ℕ) → IsSoundPage (page_at v page)

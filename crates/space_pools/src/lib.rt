@@ -1,0 +1,7 @@
+//! Pools: pages of slots, where a birth finds the lowest free address of its pool.
+#![tactic(auto)]
+
+mod pool_page;
+mod pools;
+
+pub use pools::{PageFault, Pools};

@@ -1,0 +1,159 @@
+// One page of the pools: its words, its pool, and which of its slots are free.
+ghost use Rattle.std.specs.Prelude.{◌≡◌, ℕ, ◌<◌, ◌≤◌, length, Some, true, false, is_some, IfOk, MatchOption};
+ghost use Rattle.std.specs.Borrow.{sem};
+ghost use Rattle.space_model.specs.Layout.{page_slots as slots_of_page};
+ghost use Rattle.space_planes.specs.Planes.{bit};
+ghost use Rattle.space_pools.specs.PageSlots.{free_page, free_in, taken_in, found_in, width_of, HoldsSlots, IsFullPage, IsFirstFree, TakesSlot};
+ghost use Rattle.space_pools.specs.PageLending.{LendsOnPage};
+
+use space_model::{POOLS, page_slots};
+use space_pages::SlotPage;
+use space_planes::Plane;
+use std::alloc::{AllocError as NoMemory, Global};
+use std::marker::Model;
+
+// A page of the pools. `lowest` is its first free slot, or the number of its slots where none is free.
+#[derive(Drop)]
+pub struct PoolPage {
+    words: SlotPage,
+    pool: Option<u8>,
+    free: Plane,
+    lowest: u32,
+}
+
+impl Model for PoolPage {
+    ghost use Rattle.space_pools.specs.PageSlots.{PageSlots};
+
+    ghost Value = { PageSlots };
+
+    ghost use Rattle.space_pools.specs.Inside.{page_from, IsPoolPage};
+
+    ghost view = { page_from };
+
+    ghost invariant = { IsPoolPage };
+}
+
+#[tactic(auto, using(crate::proofs::Pages::most_slots))]
+// How many slots a page of the pool has.
+fn slot_count(pool: u8) -> u32
+    requires { pool < POOLS }
+    ensures count { result ≡ slots_of_page pool }
+    ensures most { result ≤ 1638 }
+{
+    page_slots(pool) as u32
+}
+
+// The pool of a page that has one.
+fn known(pool: Option<u8>) -> u8
+    requires { is_some pool ≡ true }
+    ensures { pool ≡ Some result }
+{
+    match pool {
+        Some(its) => its,
+        None => unreachable!(),
+    }
+}
+
+// The first place past `s` whose bit is 1, or the number of bits where there is none.
+fn next_free(free: &Plane, s: u32) -> u32
+    requires { s < length free.now }
+    ensures past { s < result }
+    ensures within { result ≤ length free.now }
+    ensures clear { (k : ℕ) → s < k → k < result → bit free.now k ≡ false }
+    ensures set { result < length free.now → bit free.now result ≡ true }
+{
+    let len = free.len();
+    match free.first_set_from(s + 1) {
+        Some(next) => next,
+        None => len,
+    }
+}
+
+impl PoolPage {
+    // A page of the pool whose slots are all free.
+    pub fn new(alloc: Global, pool: u8) -> Result<PoolPage, NoMemory>
+        requires { pool < POOLS }
+        ensures { IfOk result (λ page. page ≡ free_page pool) }
+    {
+        let mut free = Plane::new(alloc, slot_count(pool))?;
+        free.fill(true);
+        Ok(PoolPage {
+            words: SlotPage::new(alloc)?,
+            pool: Some(pool),
+            free,
+            lowest: 0,
+        })
+    }
+
+    // Makes it a page of the pool whose slots are all free.
+    pub fn give(&mut self, pool: u8)
+        requires { pool < POOLS }
+        ensures { self.new ≡ free_page pool }
+    {
+        self.free.reset(slot_count(pool));
+        self.free.fill(true);
+        self.pool = Some(pool);
+        self.lowest = 0;
+    }
+
+    // Its pool, which a spare page has none of.
+    pub fn pool(&self) -> Option<u8>
+        ensures { result ≡ self.now.pool }
+    {
+        self.pool
+    }
+
+    // Whether the page has this slot and it is free.
+    pub fn is_free(&self, s: u32) -> bool
+        ensures { result ≡ free_in self.now s }
+    {
+        s < self.free.len() && self.free.get(s)
+    }
+
+    // The first free slot, if it is a page of this pool.
+    pub fn first_free_of(&self, pool: u8) -> Option<u32>
+        ensures { MatchOption result (self.now.pool ≡ Some pool → IsFullPage self.now) (λ s. (self.now.pool ≡ Some pool) × IsFirstFree self.now s) }
+    {
+        match self.pool {
+            Some(its) if its == pool && self.lowest < self.free.len() => Some(self.lowest),
+            _ => None,
+        }
+    }
+
+    // Takes the first free slot, which is free no more.
+    pub fn take_slot(&mut self, s: u32)
+        requires { IsFirstFree self.old s }
+        ensures { TakesSlot self.old self.new s }
+    {
+        self.lowest = next_free(&self.free, s);
+        self.free.clear(s);
+    }
+
+    // The words of the page.
+    pub fn words(&self) -> &SlotPage
+        ensures whole { length result.now ≡ 8192 }
+        ensures words { HoldsSlots self.now result.now }
+    {
+        &self.words
+    }
+
+    // The words of a slot that isn't free.
+    pub fn slot(&self, s: u32) -> &[u64]
+        requires { taken_in self.now s ≡ true }
+        ensures words { found_in self.now s ≡ Some result.now }
+        ensures len { length result.now ≡ width_of self.now.pool }
+    {
+        self.words.slot(known(self.pool), s)
+    }
+
+    // The words of a slot that isn't free, to be written.
+    pub fn slot_mut(&mut self, s: u32) -> &mut [u64]
+        requires { taken_in self.old s ≡ true }
+        ensures* writes_back { sem 𝓛 (LendsOnPage self.entry s result) }
+        ensures words { found_in self.old s ≡ Some result.now }
+        ensures len { length result.now ≡ width_of self.old.pool }
+    {
+        let pool = known(self.pool);
+        self.words.slot_mut(pool, s)
+    }
+}
