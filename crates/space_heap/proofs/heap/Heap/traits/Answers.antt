@@ -1,0 +1,19 @@
+use Rattle.std.proofs.Common.{◌<◌, sym, ap, ◌∙◌, subst, length}
+use Rattle.space_heap.specs.MarkPlanes.{traits_from}
+use Rattle.space_heap.proofs.Here.{never, page_here, slot_here, traits_here}
+use Rattle.space_heap.proofs.heap.Heap.traits.Goals as goal
+
+pub marks_of-requires : goal.marks_of-requires
+marks_of-requires c = page_here c.self.inside _ c.self.view_is _ _ _ c.self.invariant c.in-Some.ensures.place
+
+pub traits-requires-clause-within : goal.traits-requires-clause-within
+traits-requires-clause-within c = subst (λ m. c.in-Some.slot < length m.object) (sym c.marks_of.ensures) (slot_here c.self.inside _ c.self.view_is _ _ _ c.self.invariant c.in-Some.ensures.place)
+
+pub unreachable-requires : goal.unreachable-requires
+unreachable-requires c = never c.self.inside _ c.self.view_is _ c.requires c.in-None.ensures.place
+
+pub returns : goal.returns
+returns c =
+    c.traits.ensures
+    ∙ ap (λ m. traits_from m c.in-Some.slot) c.marks_of.ensures
+    ∙ traits_here c.self.inside _ c.self.view_is _ _ _ c.self.invariant c.in-Some.ensures.place c.requires

@@ -1,0 +1,57 @@
+-- What the fields of a heap stand for, and what holds of them.
+use Rattle.std.specs.Prelude.{◌≡◌, ℕ, ◌≤◌, true, false, not, ◌&&◌, List, [], length, map, vec_capacity, is_some, Option, Some}
+use Rattle.std.specs.List.{range_with_len}
+use Rattle.space_model.specs.declared.phase.Phase.{Phase}
+use Rattle.space_planes.specs.Planes.{bit}
+use Rattle.space_pools.specs.PageSlots.{PageSlots, found_in}
+use Rattle.space_pools.specs.PoolsView.{PoolsView, page_at}
+use Rattle.space_heap.specs.declared.marks.Marks.{Marks}
+use Rattle.space_heap.specs.declared.heap.Heap.TheInside.{Inside}
+use Rattle.space_heap.specs.Slots.{SlotView}
+use Rattle.space_heap.specs.ObjectWords.{AreObjectWords}
+use Rattle.space_heap.specs.HeapView.{PageView, HeapView, no_counters}
+use Rattle.space_heap.specs.MarkPlanes.{marks_at, AreWide, slot_from}
+
+abbrev pub slot_in : PageSlots → Marks → ℕ → SlotView
+slot_in p m s = slot_from (found_in p s) m s
+
+abbrev pub page_from : PageSlots → Marks → PageView
+page_from p m = record { pool = p.pool; slots = map (slot_in p m) (range_with_len 0 (length p.slots)) }
+
+abbrev pub page_in : PoolsView → List Marks → ℕ → PageView
+page_in v marks page = page_from (page_at v page) (marks_at marks page)
+
+abbrev pub pages_from : PoolsView → List Marks → List PageView
+pages_from v marks = map (page_in v marks) (range_with_len 0 (length v.pages))
+
+abbrev pub view_with : PoolsView → List Marks → ℕ → Phase → HeapView
+view_with v marks born phase = record {
+  limit = v.limit;
+  pages = pages_from v marks;
+  unswept = [];
+  grey = [];
+  phase = phase;
+  cursor = 0;
+  counters = record no_counters { born = born };
+}
+
+abbrev pub view_from : Inside → HeapView
+view_from h = view_with h.pools h.marks.items h.born h.phase
+
+-- the slot is in exactly one of object, free and moved, and an object has the words of one
+pub record FitsSlot (found : Option (List ℕ)) (m : Marks) (s : ℕ) : Type 0 where
+  pub object : bit m.object s ≡ (is_some found && not (bit m.moved s))
+  pub moved : bit m.moved s ≡ true → is_some found ≡ true
+  pub words : (words : List ℕ) → found ≡ Some words → bit m.moved s ≡ false → AreObjectWords words
+
+pub record AreMarksOf (p : PageSlots) (m : Marks) : Type 0 where
+  pub wide : AreWide m (length p.slots)
+  pub each : (s : ℕ) → FitsSlot (found_in p s) m s
+
+pub record AreAllMarks (v : PoolsView) (marks : List Marks) : Type 0 where
+  pub all : length marks ≡ length v.pages
+  pub of_page : (page : ℕ) → AreMarksOf (page_at v page) (marks_at marks page)
+
+pub record IsHeap (h : Inside) : Type 0 where
+  pub marks : AreAllMarks h.pools h.marks.items
+  pub room : h.pools.limit ≤ vec_capacity h.marks

@@ -1,0 +1,11 @@
+pub mod ObjectWords
+pub mod Slots
+pub mod HeapView
+pub mod Objects
+pub mod FreeSlots
+pub mod NewPages
+pub mod MarkPlanes
+pub mod NextObject
+pub mod Shown
+pub mod SlotPlaces
+pub mod Inside

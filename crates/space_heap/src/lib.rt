@@ -1,0 +1,13 @@
+//! The heap: objects at addresses, with their fields and the collector's marks.
+#![tactic(auto)]
+
+mod birth;
+mod colour;
+mod heap;
+mod marks;
+mod object_words;
+mod slot_place;
+
+pub use colour::Colour;
+pub use heap::{Heap, Made, PlaceFault};
+pub use space_pools::PageFault;

@@ -1,0 +1,228 @@
+// The planes of one page, which tell all of its slots but their words.
+ghost use Rattle.std.specs.Prelude.{◌≡◌, ◌<◌, ◌≤◌, ℕ, true, false, [], ◌∷◌, ◌++◌, not, ◌&&◌, length, slice_set, vec_capacity, IfOk, MatchOption};
+ghost use Rattle.space_planes.specs.Planes.{bit};
+ghost use Rattle.space_heap.specs.MarkPlanes.{clear_marks, AreWide, born_marks, traits_from, marks_at, guard_from, is_unprotected, colour_from, age_from};
+ghost use Rattle.space_heap.specs.NextObject.{IsAbsentFrom, IsFirstPresent};
+
+use crate::colour::Colour;
+use space_model::Guard;
+use space_planes::{MOST_BITS, Plane};
+use std::alloc::{AllocError as NoMemory, Global};
+
+// The planes of one page.
+#[derive(Drop)]
+pub struct Marks {
+    pub object: Plane,
+    pub moved: Plane,
+    pub guard: Plane,
+    pub marked: Plane,
+    pub black: Plane,
+    pub age_low: Plane,
+    pub age_high: Plane,
+    pub remembered: Plane,
+    pub kept: Plane,
+    pub pinned: Plane,
+    pub dead: Plane,
+}
+
+// What the planes tell of one object.
+#[derive(Clone, Copy)]
+pub struct Traits {
+    pub guard: Guard,
+    pub colour: Colour,
+    pub age: u8,
+    pub remembered: bool,
+    pub kept: bool,
+    pub pinned: bool,
+    pub gone: bool,
+}
+
+// The guard by its bit.
+fn guard_of(unprotected: bool) -> Guard
+    ensures { result ≡ guard_from unprotected }
+{
+    if unprotected {
+        Guard::Unprotected
+    } else {
+        Guard::Protected
+    }
+}
+
+// The colour by its two bits.
+fn colour_of(marked: bool, black: bool) -> Colour
+    ensures { result ≡ colour_from marked black }
+{
+    if !marked {
+        Colour::White
+    } else if black {
+        Colour::Black
+    } else {
+        Colour::Grey
+    }
+}
+
+// The age by its two bits.
+fn age_of(low: bool, high: bool) -> u8
+    ensures { result ≡ age_from low high }
+{
+    u8::from(low) + 2 * u8::from(high)
+}
+
+// Writes the bit of a guard.
+fn write_guard(plane: &mut Plane, s: u32, guard: Guard)
+    requires { s < length plane.old }
+    ensures { plane.new ≡ slice_set plane.old s (is_unprotected guard) }
+{
+    match guard {
+        Guard::Protected => plane.clear(s),
+        Guard::Unprotected => plane.set(s),
+    }
+}
+
+// The planes of a page.
+pub fn marks_of(marks: &Vec<Marks>, page: u32) -> &Marks
+    requires { page < length marks.now.items }
+    ensures { result.now ≡ marks_at marks.now.items page }
+{
+    &marks[page as usize]
+}
+
+// Marks a slot of a page as that of a new object.
+pub fn begin_slot(marks: &mut Vec<Marks>, page: u32, slot: u32, guard: Guard)
+    requires there { page < length marks.old.items }
+    requires wide { AreWide (marks_at marks.old.items page) (length (marks_at marks.old.items page).object) }
+    requires within { slot < length (marks_at marks.old.items page).object }
+    ensures items { marks.new.items ≡ slice_set marks.old.items page (born_marks (marks_at marks.old.items page) slot guard) }
+    ensures room { vec_capacity marks.new ≡ vec_capacity marks.old }
+{
+    marks[page as usize].begin(slot, guard);
+}
+
+// Makes the planes of a page those of a page of so many slots, without a mark.
+pub fn reset_page(marks: &mut Vec<Marks>, page: u32, slots: u32)
+    requires there { page < length marks.old.items }
+    requires most { slots ≤ MOST_BITS }
+    ensures items { marks.new.items ≡ slice_set marks.old.items page (clear_marks slots) }
+    ensures room { vec_capacity marks.new ≡ vec_capacity marks.old }
+{
+    marks[page as usize].reset(slots);
+}
+
+// Puts the planes of the next page behind the others.
+pub fn append_page(marks: &mut Vec<Marks>, made: Marks)
+    requires { length marks.old.items < vec_capacity marks.old }
+    ensures items { marks.new.items ≡ marks.old.items ++ made ∷ [] }
+    ensures room { vec_capacity marks.old ≤ vec_capacity marks.new }
+{
+    if marks.push(made).is_err() {
+        unreachable!();
+    }
+}
+
+impl Marks {
+    // The planes of a page of so many slots. They take all the memory that they will ever need.
+    pub fn new(alloc: Global, slots: u32) -> Result<Marks, NoMemory>
+        requires { slots ≤ MOST_BITS }
+        ensures { IfOk result (λ marks. marks ≡ clear_marks slots) }
+    {
+        Ok(Marks {
+            object: Plane::new(alloc, slots)?,
+            moved: Plane::new(alloc, slots)?,
+            guard: Plane::new(alloc, slots)?,
+            marked: Plane::new(alloc, slots)?,
+            black: Plane::new(alloc, slots)?,
+            age_low: Plane::new(alloc, slots)?,
+            age_high: Plane::new(alloc, slots)?,
+            remembered: Plane::new(alloc, slots)?,
+            kept: Plane::new(alloc, slots)?,
+            pinned: Plane::new(alloc, slots)?,
+            dead: Plane::new(alloc, slots)?,
+        })
+    }
+
+    // Makes them the planes of a page of so many slots, without a mark. It takes no memory.
+    pub fn reset(&mut self, slots: u32)
+        requires { slots ≤ MOST_BITS }
+        ensures { self.new ≡ clear_marks slots }
+    {
+        self.object.reset(slots);
+        self.moved.reset(slots);
+        self.guard.reset(slots);
+        self.marked.reset(slots);
+        self.black.reset(slots);
+        self.age_low.reset(slots);
+        self.age_high.reset(slots);
+        self.remembered.reset(slots);
+        self.kept.reset(slots);
+        self.pinned.reset(slots);
+        self.dead.reset(slots);
+    }
+
+    // Marks the slot as that of a new object: every mark that an earlier one left is cleared.
+    pub fn begin(&mut self, s: u32, guard: Guard)
+        requires wide { AreWide self.old (length self.old.object) }
+        requires within { s < length self.old.object }
+        ensures { self.new ≡ born_marks self.old s guard }
+    {
+        self.object.set(s);
+        self.moved.clear(s);
+        write_guard(&mut self.guard, s, guard);
+        self.marked.clear(s);
+        self.black.clear(s);
+        self.age_low.clear(s);
+        self.age_high.clear(s);
+        self.remembered.clear(s);
+        self.kept.clear(s);
+        self.pinned.clear(s);
+        self.dead.clear(s);
+    }
+
+    // Whether the slot holds an object that isn't gone.
+    pub fn is_present(&self, s: u32) -> bool
+        requires wide { AreWide self.now (length self.now.object) }
+        requires within { s < length self.now.object }
+        ensures { result ≡ (bit self.now.object s && not (bit self.now.dead s)) }
+    {
+        self.object.get(s) && !self.dead.get(s)
+    }
+
+    // Whether the object of the slot was moved.
+    pub fn is_moved(&self, s: u32) -> bool
+        requires { s < length self.now.moved }
+        ensures { result ≡ bit self.now.moved s }
+    {
+        self.moved.get(s)
+    }
+
+    // What the planes tell of the object of the slot.
+    pub fn traits(&self, s: u32) -> Traits
+        requires wide { AreWide self.now (length self.now.object) }
+        requires within { s < length self.now.object }
+        ensures { result ≡ traits_from self.now s }
+    {
+        Traits {
+            guard: guard_of(self.guard.get(s)),
+            colour: colour_of(self.marked.get(s), self.black.get(s)),
+            age: age_of(self.age_low.get(s), self.age_high.get(s)),
+            remembered: self.remembered.get(s),
+            kept: self.kept.get(s),
+            pinned: self.pinned.get(s),
+            gone: self.dead.get(s),
+        }
+    }
+
+    // The first slot from `s` on that holds an object that isn't gone.
+    pub fn first_present(&self, s: u32) -> Option<u32>
+        requires { AreWide self.now (length self.now.object) }
+        ensures { MatchOption result (IsAbsentFrom self.now s) (IsFirstPresent self.now s) }
+    {
+        let mut at = s;
+        'slots: while at < self.object.len() {
+            if self.is_present(at) {
+                return Some(at);
+            }
+            at += 1;
+        }
+        None
+    }
+}
