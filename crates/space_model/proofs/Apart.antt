@@ -6,7 +6,7 @@ use Rattle.space_model.specs.declared.value.Value.TheVariants.{Nil, Small, Name}
 use Rattle.space_model.specs.declared.event.Event.TheVariants.{Gone, Verdict}
 use Rattle.space_model.specs.declared.event.Kind.TheVariants.{Minor, Major, Full as FullKind}
 use Rattle.space_model.specs.declared.reply.Refusal.TheVariants.{TooLarge, NoRoot, NoWord, NotObject, NoField}
-use Rattle.space_model.specs.declared.reply.Reply.TheVariants.{Made, Full, NoMemory, Done, Read, Truth, Refused}
+use Rattle.space_model.specs.declared.reply.Reply.TheVariants.{Made, Full, NoMemory, Done, Pushed, Read, Truth, Refused}
 use Rattle.space_model.specs.Outputs.{Output, Told, Replied}
 use Rattle.space_model.specs.Lines.{lines_of}
 use Rattle.space_model.specs.Spelling.{text_of_pieces}
@@ -37,6 +37,7 @@ abbrev pub forms : (ℕ → ℕ) → List Output
 forms n =
     Told (Gone (n 0)) ∷ Told (Verdict Minor (n 0)) ∷ Told (Verdict Major (n 0)) ∷ Told (Verdict FullKind (n 0))
     ∷ Replied (Made (n 0) (n 1)) ∷ Replied Full ∷ Replied NoMemory ∷ Replied Done
+    ∷ Replied (Pushed (n 0) None) ∷ Replied (Pushed (n 0) (Some (n 1)))
     ∷ Replied (Read Nil) ∷ Replied (Read (Small (n 0))) ∷ Replied (Read (Name (n 0)))
     ∷ Replied (Truth true) ∷ Replied (Truth false)
     ∷ Replied (Refused TooLarge) ∷ Replied (Refused NoRoot) ∷ Replied (Refused NoWord) ∷ Replied (Refused NotObject) ∷ Replied (Refused NoField) ∷ []
@@ -55,6 +56,7 @@ IsClear o = (are_whole (shape (output_pieces o)) ≡ true) × (are_raw (shape (o
 -- each form by itself; a clause for each type with cases within Reply
 clear : (o : Output) → IsClear o
 clear (Told (Verdict Minor gone)) = (refl, refl, refl, refl)
+clear (Replied (Pushed word None)) = (refl, refl, refl, refl)
 clear (Replied (Read Nil)) = (refl, refl, refl, refl)
 clear (Replied (Truth true)) = (refl, refl, refl, refl)
 clear (Replied (Refused TooLarge)) = (refl, refl, refl, refl)

@@ -128,18 +128,19 @@ values_back (d ∷ ds) h = rw (glyph_value d h.0, values_back ds h.1)
 not_zero : (n : ℕ) → (suc n == 0) ≡ false
 not_zero n = grind (arith, nat_tests)
 
-hex-suc : (n : ℕ) → hex (suc n) ≡ 48 ∷ 120 ∷ hex_digits (suc n)
+pub hex-suc : (n : ℕ) → hex (suc n) ≡ 48 ∷ 120 ∷ hex_digits (suc n)
 hex-suc n = rw (not_zero n)
 
-IsWord-hex : (n : ℕ) → IsWord (hex n)
+pub IsWord-hex : (n : ℕ) → IsWord (hex n)
 IsWord-hex zero = (refl, (refl, (refl, tt)))
 IsWord-hex (suc n) = subst IsWord (sym (hex-suc n)) (refl, (refl, IsWord-glyphs (digits_of 16 (suc n)) (all_below_base_digits_of 16 (suc n) (lit≤ tt))))
 
+pub hex_digits-value : (n : ℕ) → digits_value 16 (hex_digits n) ≡ n
+hex_digits-value n = digits_value_is 16 (hex_digits n) ∙ rw (values_back (digits_of 16 n) (all_below_base_digits_of 16 n (lit≤ tt))) (number_digits_of 16 n (lit≤ tt))
+
 read-hex : (n : ℕ) → read (hex n) ≡ Hexa n
 read-hex zero = refl
-read-hex (suc n) =
-    let e : digits_value 16 (hex_digits (suc n)) ≡ suc n = digits_value_is 16 (hex_digits (suc n)) ∙ rw (values_back (digits_of 16 (suc n)) (all_below_base_digits_of 16 (suc n) (lit≤ tt))) (number_digits_of 16 (suc n) (lit≤ tt)) in
-    ap read (hex-suc n) ∙ ap Hexa e
+read-hex (suc n) = ap read (hex-suc n) ∙ ap Hexa (hex_digits-value (suc n))
 
 is_digit-yes : (b : ℕ) → 48 ≤ b → b ≤ 57 → is_digit b ≡ true
 is_digit-yes b low high = grind (arith, nat_tests)

@@ -1,5 +1,5 @@
 -- A birth and a store keep the layout.
-use Rattle.std.proofs.Common.{◌≡◌, ◌≢◌, ◌⊎◌, ℕ, ◌+◌, ◌<◌, ◌≤◌, List, [], ◌∷◌, ◌++◌, length, nat_eq, refl, ap, ◌∙◌, sym, subst, arith, Option, None, Some, ⊎_elim, inl, inr}
+use Rattle.std.proofs.Common.{◌≡◌, ◌≢◌, ◌⊎◌, ℕ, ◌+◌, ◌<◌, ◌≤◌, List, [], ◌∷◌, ◌++◌, length, ap, ◌∙◌, sym, subst, arith, Option, None, Some, ⊎_elim, inl, inr}
 use Rattle.std.specs.Ordering.{nat_cmp}
 use Rattle.std.specs.FinMap.{FinMap, get, insert}
 use Rattle.std.proofs.lemmas.Bool.{cases_eq}
@@ -13,7 +13,7 @@ use Rattle.space_model.specs.Graph.{Item}
 use Rattle.space_model.specs.Layout.{page_of, pool_for, slot_address, page_slots, slot_bytes}
 use Rattle.space_model.specs.New.{IsBirthPlace}
 use Rattle.space_model.specs.Pages.{pool_at, with_pool}
-use Rattle.space_model.specs.Pieces.{new_item, born}
+use Rattle.space_model.specs.Pieces.{new_item}
 use Rattle.space_model.specs.Sound.{pool_of, IsSlotOf, AreSlots, SoundLayout}
 use Rattle.space_model.specs.State.{State}
 use Rattle.space_model.proofs.PageLaws.{pool_at-with_pool, length-with_pool, page_of-slot_address}

@@ -12,6 +12,7 @@ pub mod LayoutKept
 pub mod NamesKept
 pub mod ValuesHold
 pub mod ValuesKept
+pub mod StackWords
 pub mod SoundKept
 pub mod Cutting
 pub mod Apart

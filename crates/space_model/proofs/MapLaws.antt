@@ -1,5 +1,5 @@
 -- What the maps of names hold after a change.
-use Rattle.std.proofs.Common.{◌≡◌, ◌⊎◌, ℕ, cond, true, nat_eq, ap, ◌∙◌, refl, arith, Option, None, Some}
+use Rattle.std.proofs.Common.{◌≡◌, ℕ, cond, true, nat_eq, ap, ◌∙◌, refl, arith, Option, None, Some}
 use Rattle.std.specs.Prelude.{is_some}
 use Rattle.std.proofs.lemmas.Bool.{cases_eq}
 use Rattle.std.proofs.lemmas.Bool.Decides.{nat_tests}

@@ -16,7 +16,7 @@ use Rattle.space_model.specs.declared.value.Value.TheVariants.{Nil, Name}
 use Rattle.space_model.specs.Graph.{Item, no_item, item_of, names_of, children, IsChild}
 use Rattle.space_model.specs.Layout.{pool_for}
 use Rattle.space_model.specs.Pieces.{new_item, born, item_stored}
-use Rattle.space_model.specs.Roots.{Root, root_names, with_root}
+use Rattle.space_model.specs.Roots.{Root, root_names, with_root, without_root}
 use Rattle.space_model.specs.Sound.{AreSlots, SoundNames, SoundLayout}
 use Rattle.space_model.specs.State.{State}
 use Rattle.space_model.proofs.MapLaws.{get-insert_name, present-insert, present-new, some_get}
@@ -50,12 +50,32 @@ root_names-with_root (r ∷ roots) root value n m = ⊎_elim
     after : is_member nat_eq (root_names roots) n ≡ true → is_member nat_eq (root_names (r ∷ roots)) n ≡ true
     after a = member_right (names_of r.1) (root_names roots) n a
 
+-- the roots that are left hold nothing else
+root_names-without_root : (roots : List Root) (root : List ℕ) (n : ℕ) → is_member nat_eq (root_names (without_root roots root)) n ≡ true → is_member nat_eq (root_names roots) n ≡ true
+unfolding root_names
+root_names-without_root [] root n m = m
+root_names-without_root (r ∷ roots) root n m = ⊎_elim
+    (λ t. member_right (names_of r.1) (root_names roots) n (rw t at m))
+    (λ f. ⊎_elim
+    (λ a. member_left (names_of r.1) (root_names roots) n a)
+    (λ b. member_right (names_of r.1) (root_names roots) n (root_names-without_root roots root n b))
+    (member_cases (names_of r.1) (root_names (without_root roots root)) n (rw f at m)))
+    (cases_Bool (bytes_eq root r.0))
+
 -- a root was written, with a value that is present
 pub SoundNames-rooted : (graph : List Item) (roots : List Root) (place : FinMap nat_cmp ℕ) (root : List ℕ) (value : Value) → ((n : ℕ) → is_member nat_eq (names_of value) n ≡ true → is_some (get place n) ≡ true) → SoundNames graph roots place → SoundNames graph (with_root roots root value) place
 SoundNames-rooted graph roots place root value present h = record {
   born_present = h.born_present;
   children_present = h.children_present;
   roots_present = λ n m. ⊎_elim (λ a. present n a) (λ b. h.roots_present n b) (root_names-with_root roots root value n m);
+}
+
+-- a root was taken away
+pub SoundNames-unrooted : (graph : List Item) (roots : List Root) (place : FinMap nat_cmp ℕ) (root : List ℕ) → SoundNames graph roots place → SoundNames graph (without_root roots root) place
+SoundNames-unrooted graph roots place root h = record {
+  born_present = h.born_present;
+  children_present = h.children_present;
+  roots_present = λ n m. h.roots_present n (root_names-without_root roots root n m);
 }
 
 module _ (s : State) (root : List ℕ) (fields : ℕ) (guard : Guard) (style : Style) (address : ℕ) (l : AreSlots s.graph s.heap.pages s.heap.place) (h : SoundNames s.graph s.roots s.heap.place) where

@@ -1,5 +1,5 @@
 -- The opening is sound, and lawful commands keep states so.
-use Rattle.std.proofs.Common.{◌≡◌, ◌⊎◌, ℕ, ◌+◌, ◌≤◌, true, false, List, [], ◌∷◌, ◌++◌, length, nat_eq, refl, sym, ap, ◌∙◌, subst, arith, ⊎_elim, Option, None, Some, Result, Ok, Err}
+use Rattle.std.proofs.Common.{◌≡◌, ℕ, ◌+◌, ◌≤◌, true, List, [], ◌∷◌, ◌++◌, length, nat_eq, refl, sym, ◌∙◌, subst, arith, ⊎_elim, Option, None, Some, Result, Ok, Err}
 use Rattle.std.specs.Prelude.{is_some}
 use Rattle.std.specs.List.{IsDistinct}
 use Rattle.std.specs.Set.{is_member}
@@ -7,7 +7,7 @@ use Rattle.std.specs.Ordering.{nat_cmp}
 use Rattle.std.specs.FinMap.{FinMap, get, keys, empty, get-empty}
 use Rattle.std.proofs.lemmas.Bool.{false≢true, and_parts}
 use Rattle.space_model.specs.declared.command.Command.{Command}
-use Rattle.space_model.specs.declared.command.Command.TheVariants.{New, Set, Store, Load, Same}
+use Rattle.space_model.specs.declared.command.Command.TheVariants.{New, Set, DropRoot, Push, Raw, Pop, Store, Load, Same}
 use Rattle.space_model.specs.declared.command.Input.{Input}
 use Rattle.space_model.specs.declared.command.Operand.{Operand}
 use Rattle.space_model.specs.declared.object.Guard.{Guard}
@@ -18,7 +18,7 @@ use Rattle.space_model.specs.declared.reply.Reply.{Reply}
 use Rattle.space_model.specs.declared.reply.Reply.TheVariants.{Made, Full, NoMemory, Done, Read, Refused}
 use Rattle.space_model.specs.declared.value.Value.{Value}
 use Rattle.space_model.specs.declared.value.Value.TheVariants.{Name}
-use Rattle.space_model.specs.Answers.{WritesRoot, SetReply, LoadReply, StoreReply, field_value, written_field}
+use Rattle.space_model.specs.Answers.{WritesRoot, SetReply, DropReply, LoadReply, StoreReply, field_value, written_field}
 use Rattle.space_model.specs.Graph.{IsChild}
 use Rattle.space_model.specs.Lawful.{Effects, Lawful, LawfulAll}
 use Rattle.space_model.specs.Layout.{pool_for}
@@ -26,20 +26,21 @@ use Rattle.space_model.specs.Moments.{noted, parents_of_young_in}
 use Rattle.space_model.specs.New.{IsBirthPlace, NewReply}
 use Rattle.space_model.specs.Operands.{operand_value, input_value}
 use Rattle.space_model.specs.Outputs.{Output}
-use Rattle.space_model.specs.Pieces.{born, rooted, stored, Stored}
+use Rattle.space_model.specs.Pieces.{born, rooted, unrooted, stacked, stored}
 use Rattle.space_model.specs.Reach.{IsStart, Reach}
-use Rattle.space_model.specs.Roots.{root_names}
+use Rattle.space_model.specs.Roots.{root_names, root_value}
 use Rattle.space_model.specs.Sound.{Sound, SoundNames, SoundLayout, AreSoundItems, AreSoundRoots, IsSmall, IsSmallInput, IsGivenSmall, AreGivenSmall}
+use Rattle.space_model.specs.StackAnswers.{Raws, PushReply, Pops}
 use Rattle.space_model.specs.State.{State, opening}
 use Rattle.space_model.proofs.LayoutKept.{fresh_slot, SoundLayout-born}
 use Rattle.space_model.proofs.MapLaws.{some_get}
-use Rattle.space_model.proofs.NamesKept.{SoundNames-born, SoundNames-rooted, SoundNames-stored, SoundLayout-stored}
+use Rattle.space_model.proofs.NamesKept.{SoundNames-born, SoundNames-rooted, SoundNames-unrooted, SoundNames-stored, SoundLayout-stored}
 use Rattle.space_model.proofs.NotedLaws.{SoundMoments-noted}
 use Rattle.space_model.proofs.Members.{member_filter}
 use Rattle.space_model.proofs.ReachedLaws.{member-keys}
 use Rattle.space_model.proofs.Reaching.{IsReached-least}
 use Rattle.space_model.proofs.ValuesHold.{input_holds, read_holds, write_holds}
-use Rattle.space_model.proofs.ValuesKept.{IsPresentValue, name_present, present_kept, small_kept, AreSoundItems-push, AreSoundItems-stored, AreSoundRoots-with_root}
+use Rattle.space_model.proofs.ValuesKept.{IsPresentValue, name_present, present_kept, small_kept, AreSoundItems-push, AreSoundItems-stored, AreSoundRoots-with_root, AreSoundRoots-without_root}
 
 abbrev none_yet : FinMap nat_cmp ℕ
 none_yet = empty
@@ -112,6 +113,18 @@ Sound-rooted s t root value present small e h =
     (AreSoundRoots-with_root s.roots root value small h.roots)
     h.moments.once
 
+pub Sound-unrooted : (s t : State) (root : List ℕ) → t ≡ noted (unrooted s root) → Sound s → Sound t
+Sound-unrooted s t root e h =
+    after_piece (unrooted s root) t e h.layout
+    (SoundNames-unrooted s.graph s.roots s.heap.place root h.names)
+    h.items
+    (AreSoundRoots-without_root s.roots root h.roots)
+    h.moments.once
+
+-- any words may be on the stack
+pub Sound-stacked : (s t : State) (words : List ℕ) → t ≡ noted (stacked s words) → Sound s → Sound t
+Sound-stacked s t words e h = after_piece (stacked s words) t e h.layout h.names h.items h.roots h.moments.once
+
 pub Sound-stored : (s t : State) (name index : ℕ) (value : Value) → is_some (get s.heap.place name) ≡ true → IsPresentValue s.heap.place value → IsSmall value → t ≡ noted (stored s name index value) → Sound s → Sound t
 Sound-stored s t name index value there present small e h =
     let at = some_get (get s.heap.place name) there in
@@ -144,6 +157,26 @@ set_sound s t root input (Ok value) reply i f e h =
     e h
 set_sound s t root input (Err why) reply i f e h = subst Sound (sym e.unchanged) h
 
+drop_sound : (s t : State) (root : List ℕ) (found : Option Value) (reply : Reply) → DropReply s root found reply t → Sound s → Sound t
+drop_sound s t root None reply e h = subst Sound (sym e.unchanged) h
+drop_sound s t root (Some value) reply e h = Sound-unrooted s t root e.1 h
+
+raw_sound : (s t : State) (word : ℕ) (reply : Reply) → Raws s word reply t → Sound s → Sound t
+raw_sound s t word reply e h = ⊎_elim
+    (λ (_, after). Sound-stacked s t (s.stack ++ word ∷ []) after h)
+    (λ (_, same). subst Sound (sym same) h)
+    e
+
+push_sound : (s t : State) (found : Result Value Refusal) (reply : Reply) → PushReply s found reply t → Sound s → Sound t
+push_sound s t (Ok value) reply e h = raw_sound s t _ reply e h
+push_sound s t (Err why) reply e h = subst Sound (sym e.unchanged) h
+
+pop_sound : (s t : State) (reply : Reply) → Pops s reply t → Sound s → Sound t
+pop_sound s t reply e h = ⊎_elim
+    (λ pops. Sound-stacked s t pops.others pops.after h)
+    (λ (_, refused). subst Sound (sym refused.unchanged) h)
+    e
+
 load_sound : (s t : State) (root : List ℕ) (object : Operand) (index : ℕ) (found : Result Value Refusal) (reply : Reply) → field_value s.graph (operand_value s object) index ≡ found → LoadReply s root found reply t → Sound s → Sound t
 load_sound s t root object index (Ok value) reply f e h =
     root_sound s t root value (Read value) reply
@@ -162,6 +195,10 @@ store_sound s t object index input (Err why) reply i f e h = subst Sound (sym e.
 effects_sound : (s t : State) (command : Command) (events : List Event) (reply : Reply) → IsGivenSmall command → Effects s command events reply t → Sound s → Sound t
 effects_sound s t (New root fields guard style) events reply i e h = new_sound s t root fields guard style reply e.1 h
 effects_sound s t (Set root value) events reply i e h = set_sound s t root value (input_value s value) reply i refl e.1 h
+effects_sound s t (DropRoot root) events reply i e h = drop_sound s t root (root_value s.roots root) reply e.1 h
+effects_sound s t (Push value) events reply i e h = push_sound s t (input_value s value) reply e.1 h
+effects_sound s t (Raw word) events reply i e h = raw_sound s t word reply e.1 h
+effects_sound s t Pop events reply i e h = pop_sound s t reply e.1 h
 effects_sound s t (Store object index value) events reply i e h = store_sound s t object index value (written_field s.graph (operand_value s object) index (input_value s value)) reply i refl e.1 h
 effects_sound s t (Load root object index) events reply i e h = load_sound s t root object index (field_value s.graph (operand_value s object) index) reply refl e.1 h
 effects_sound s t (Same left right) events reply i e h = subst Sound (sym e.1.1) h

@@ -11,10 +11,10 @@ use Rattle.std.proofs.lemmas.List.{length-replicate, length-set}
 use Rattle.space_model.specs.declared.object.Guard.{Guard}
 use Rattle.space_model.specs.declared.object.Style.{Style}
 use Rattle.space_model.specs.declared.value.Value.{Value}
-use Rattle.space_model.specs.declared.value.Value.TheVariants.{Nil, Small, Name}
+use Rattle.space_model.specs.declared.value.Value.TheVariants.{Nil, Name}
 use Rattle.space_model.specs.Graph.{Item, no_item, item_of, names_of, children}
 use Rattle.space_model.specs.Pieces.{new_item, item_stored}
-use Rattle.space_model.specs.Roots.{Root, root_value, root_names, with_root}
+use Rattle.space_model.specs.Roots.{Root, root_value, root_names, with_root, without_root}
 use Rattle.space_model.specs.Sound.{Sound, IsSmall, AreSmall, AreSoundItems, AreSoundRoots}
 use Rattle.space_model.specs.State.{State}
 use Rattle.space_model.proofs.Members.{member_left, member_right}
@@ -117,4 +117,12 @@ AreSoundRoots-with_root [] root value v h = (v, tt)
 AreSoundRoots-with_root (r ∷ roots) root value v h = ⊎_elim
     (λ t. rw t (v, h.1))
     (λ f. rw f (h.0, AreSoundRoots-with_root roots root value v h.1))
+    (cases_Bool (bytes_eq root r.0))
+
+-- a root taken away
+pub AreSoundRoots-without_root : (roots : List Root) (root : List ℕ) → AreSoundRoots roots → AreSoundRoots (without_root roots root)
+AreSoundRoots-without_root [] root h = tt
+AreSoundRoots-without_root (r ∷ roots) root h = ⊎_elim
+    (λ t. rw t h.1)
+    (λ f. rw f (h.0, AreSoundRoots-without_root roots root h.1))
     (cases_Bool (bytes_eq root r.0))

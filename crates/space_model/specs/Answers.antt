@@ -1,15 +1,16 @@
 -- The replies of commands that make no choice, and the states after them.
-use Rattle.std.specs.Prelude.{◌≡◌, ◌⊎◌, ℕ, ◌==◌, Bool, true, false, List, None, Result, Ok, Err}
+use Rattle.std.specs.Prelude.{◌≡◌, ◌⊎◌, ℕ, ◌==◌, Bool, true, false, List, Option, None, Some, Result, Ok, Err}
 use Rattle.space_model.specs.declared.command.Input.{Input}
 use Rattle.space_model.specs.declared.command.Operand.{Operand}
 use Rattle.space_model.specs.declared.reply.Refusal.{Refusal}
+use Rattle.space_model.specs.declared.reply.Refusal.TheVariants.{NoRoot}
 use Rattle.space_model.specs.declared.reply.Reply.{Reply}
 use Rattle.space_model.specs.declared.reply.Reply.TheVariants.{NoMemory, Done, Read, Truth, Refused}
 use Rattle.space_model.specs.declared.value.Value.{Value}
 use Rattle.space_model.specs.declared.value.Value.TheVariants.{Nil, Small, Name}
 use Rattle.space_model.specs.Graph.{Item, item_of}
 use Rattle.space_model.specs.Operands.{operand_value, input_value, object_in, field_in}
-use Rattle.space_model.specs.Pieces.{Rooted, Stored}
+use Rattle.space_model.specs.Pieces.{Rooted, Unrooted, Stored}
 use Rattle.space_model.specs.Refusals.{both, and_then}
 use Rattle.space_model.specs.Roots.{root_value}
 use Rattle.space_model.specs.State.{State}
@@ -31,6 +32,14 @@ SetReply s root (Err why) reply t = Refuses s why reply t
 -- `set`: the root holds the value
 abbrev pub Sets : State → List ℕ → Input → Reply → State → Type 0
 Sets s root value reply t = SetReply s root (input_value s value) reply t
+
+abbrev pub DropReply : State → List ℕ → Option Value → Reply → State → Type 0
+DropReply s root None reply t = Refuses s NoRoot reply t
+DropReply s root (Some value) reply t = (reply ≡ Done) × Unrooted s root t
+
+-- `drop`: the root is taken away, where there is one
+abbrev pub DropsRoot : State → List ℕ → Reply → State → Type 0
+DropsRoot s root reply t = DropReply s root (root_value s.roots root) reply t
 
 -- the value of a field of the object that a value is
 abbrev pub field_value : List Item → Result Value Refusal → ℕ → Result Value Refusal

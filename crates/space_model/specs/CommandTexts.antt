@@ -1,7 +1,7 @@
 -- How a command is spelled: its words with one space between two, numbers without leading zeros.
 use Rattle.std.specs.Prelude.{◌≡◌, ℕ, ◌<◌, ◌^◌, List, [], ◌∷◌, ◌++◌, codes}
 use Rattle.space_model.specs.declared.command.Command.{Command}
-use Rattle.space_model.specs.declared.command.Command.TheVariants.{New, Set, Store, Load, Same}
+use Rattle.space_model.specs.declared.command.Command.TheVariants.{New, Set, DropRoot, Push, Raw, Pop, Store, Load, Same}
 use Rattle.space_model.specs.declared.command.Input.{Input}
 use Rattle.space_model.specs.declared.command.Input.TheVariants.{From, Nil, Small}
 use Rattle.space_model.specs.declared.command.Operand.{Operand}
@@ -11,7 +11,7 @@ use Rattle.space_model.specs.declared.object.Guard.TheVariants.{Protected, Unpro
 use Rattle.space_model.specs.declared.object.Style.{Style}
 use Rattle.space_model.specs.declared.object.Style.TheVariants.{Movable, Keeping}
 use Rattle.space_model.specs.Idents.{IsIdent}
-use Rattle.space_model.specs.Spelling.{Piece, Say, Number, Called, text_of_pieces}
+use Rattle.space_model.specs.Spelling.{Piece, Say, Number, Hex, Called, text_of_pieces}
 
 abbrev pub operand_pieces : Operand → List Piece
 operand_pieces (Root name) = Called name ∷ []
@@ -33,6 +33,10 @@ style_text Keeping = codes " K"
 abbrev pub command_pieces : Command → List Piece
 command_pieces (New root fields guard style) = Say (codes "new ") ∷ Called root ∷ Say (codes " ") ∷ Number fields ∷ Say (guard_text guard) ∷ Say (style_text style) ∷ []
 command_pieces (Set root value) = Say (codes "set ") ∷ Called root ∷ Say (codes " ") ∷ input_pieces value
+command_pieces (DropRoot root) = Say (codes "drop ") ∷ Called root ∷ []
+command_pieces (Push value) = Say (codes "push ") ∷ input_pieces value
+command_pieces (Raw word) = Say (codes "raw ") ∷ Hex word ∷ []
+command_pieces Pop = Say (codes "pop") ∷ []
 command_pieces (Store object index value) = Say (codes "store ") ∷ operand_pieces object ++ Say (codes " ") ∷ Number index ∷ Say (codes " ") ∷ input_pieces value
 command_pieces (Load root object index) = Say (codes "load ") ∷ Called root ∷ Say (codes " ") ∷ operand_pieces object ++ Say (codes " ") ∷ Number index ∷ []
 command_pieces (Same left right) = Say (codes "same ") ∷ operand_pieces left ++ Say (codes " ") ∷ operand_pieces right
@@ -41,10 +45,10 @@ command_pieces (Same left right) = Say (codes "same ") ∷ operand_pieces left +
 abbrev pub command_text : Command → List ℕ
 command_text command = text_of_pieces (command_pieces command)
 
--- the operand has a line; a word of the stack has none yet
+-- the operand has a line; that the place of a stack word is below 2 ^ 64 comes with the pieces
 abbrev pub IsWritableOperand : Operand → Type 0
 IsWritableOperand (Root name) = IsIdent name
-IsWritableOperand (Word place) = ⊥
+IsWritableOperand (Word place) = Unit {0}
 
 -- the value has a line: a small integer is below 2 ^ 62
 abbrev pub IsWritableInput : Input → Type 0
@@ -52,10 +56,14 @@ IsWritableInput (From operand) = IsWritableOperand operand
 IsWritableInput Nil = Unit {0}
 IsWritableInput (Small number) = number < 2 ^ 62
 
--- the command is in the grammar
+-- the command is in the grammar; that a field count is below 2 ^ 64 comes with the pieces
 abbrev pub IsWritable : Command → Type 0
 IsWritable (New root fields guard style) = IsIdent root × (guard ≡ Protected) × (style ≡ Movable)
 IsWritable (Set root value) = IsIdent root × IsWritableInput value
+IsWritable (DropRoot root) = IsIdent root
+IsWritable (Push value) = IsWritableInput value
+IsWritable (Raw word) = word < 2 ^ 64
+IsWritable Pop = Unit {0}
 IsWritable (Store object index value) = IsWritableOperand object × (index < 2 ^ 64) × IsWritableInput value
 IsWritable (Load root object index) = IsIdent root × IsWritableOperand object × (index < 2 ^ 64)
 IsWritable (Same left right) = IsWritableOperand left × IsWritableOperand right

@@ -1,10 +1,10 @@
 -- The lines of a trace, and the commands that they are: one row a form. The language is this project's own.
-use Rattle.std.specs.Prelude.{◌≡◌, ℕ, ◌^◌, ◌<◌, ◌≤◌, ◌==◌, if◌then◌else◌, List, [], ◌∷◌, ◌++◌, length, codes, Option, None, Some}
+use Rattle.std.specs.Prelude.{◌≡◌, ℕ, ◌^◌, ◌<◌, ◌≤◌, ◌==◌, Bool, ◌&&◌, ◌||◌, nat_le, IsTrue, if◌then◌else◌, List, [], ◌∷◌, ◌++◌, length, codes, Option, None, Some}
 use Rattle.std.specs.Option.{option_to_list}
-use Rattle.std.specs.List.{slice_split}
+use Rattle.std.specs.List.{slice_split, All}
 use Rattle.std.specs.Str.Parse.{AllDigits, digits_value}
 use Rattle.space_model.specs.declared.command.Command.{Command}
-use Rattle.space_model.specs.declared.command.Command.TheVariants.{New, Set, Store, Load, Same}
+use Rattle.space_model.specs.declared.command.Command.TheVariants.{New, Set, DropRoot, Push, Raw, Pop, Store, Load, Same}
 use Rattle.space_model.specs.declared.command.Input.{Input}
 use Rattle.space_model.specs.declared.command.Input.TheVariants.{From, Nil, Small}
 use Rattle.space_model.specs.declared.command.Operand.{Operand}
@@ -32,10 +32,23 @@ pub record IsNumber (text : List ℕ) (number : ℕ) : Type 0 where
   pub value : number ≡ digits_value 10 text
   pub fits : number < 2 ^ 64
 
--- the word is an operand; a word of the stack has no spelling yet
+-- a digit in base 16, of which the letters are small
+abbrev pub is_hex_digit : ℕ → Bool
+is_hex_digit b = (nat_le 48 b && nat_le b 57) || (nat_le 97 b && nat_le b 102)
+
+-- `0x` and 1 to 16 digits in base 16
+pub record IsHex (text : List ℕ) (number : ℕ) : Type 0 where
+  pub digits : List ℕ
+  pub is : text ≡ codes "0x" ++ digits
+  pub some : 0 < length digits
+  pub short : length digits ≤ 16
+  pub are_digits : All (λ b. IsTrue (is_hex_digit b)) digits
+  pub value : number ≡ digits_value 16 digits
+
+-- the word is an operand: an ident, or `@` and the place of a stack word
 abbrev pub IsOperand : List ℕ → Operand → Type 0
 IsOperand word (Root name) = (word ≡ name) × IsIdent name
-IsOperand word (Word place) = ⊥
+IsOperand word (Word place) = (digits : List ℕ) × (word ≡ 64 ∷ digits) × IsNumber digits place
 
 -- the word is a value: an operand, `nil`, or `=` and a small number
 abbrev pub IsInput : List ℕ → Input → Type 0
@@ -49,6 +62,14 @@ IsCommand words (New root fields guard style) =
     (digits : List ℕ) × (words ≡ codes "new" ∷ root ∷ digits ∷ codes "P" ∷ codes "M" ∷ []) × IsIdent root × IsNumber digits fields × (guard ≡ Protected) × (style ≡ Movable)
 IsCommand words (Set root value) =
     (v : List ℕ) × (words ≡ codes "set" ∷ root ∷ v ∷ []) × IsIdent root × IsInput v value
+IsCommand words (DropRoot root) =
+    (words ≡ codes "drop" ∷ root ∷ []) × IsIdent root
+IsCommand words (Push value) =
+    (v : List ℕ) × (words ≡ codes "push" ∷ v ∷ []) × IsInput v value
+IsCommand words (Raw word) =
+    (digits : List ℕ) × (words ≡ codes "raw" ∷ digits ∷ []) × IsHex digits word
+IsCommand words Pop =
+    words ≡ codes "pop" ∷ []
 IsCommand words (Store object index value) =
     (a : List ℕ) × (digits : List ℕ) × (v : List ℕ) × (words ≡ codes "store" ∷ a ∷ digits ∷ v ∷ []) × IsOperand a object × IsNumber digits index × IsInput v value
 IsCommand words (Load root object index) =

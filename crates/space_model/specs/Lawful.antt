@@ -1,18 +1,23 @@
 -- Which outputs a command may have, and the state after it: one row a command.
-use Rattle.std.specs.Prelude.{◌≡◌, ℕ, List, [], ◌∷◌, ◌++◌, map}
+use Rattle.std.specs.Prelude.{◌≡◌, List, [], ◌∷◌, ◌++◌, map}
 use Rattle.space_model.specs.declared.command.Command.{Command}
-use Rattle.space_model.specs.declared.command.Command.TheVariants.{New, Set, Store, Load, Same}
+use Rattle.space_model.specs.declared.command.Command.TheVariants.{New, Set, DropRoot, Push, Raw, Pop, Store, Load, Same}
 use Rattle.space_model.specs.declared.event.Event.{Event}
 use Rattle.space_model.specs.declared.reply.Reply.{Reply}
-use Rattle.space_model.specs.Answers.{Sets, Stores, Loads, Compares}
+use Rattle.space_model.specs.Answers.{Sets, DropsRoot, Stores, Loads, Compares}
 use Rattle.space_model.specs.New.{News}
 use Rattle.space_model.specs.Outputs.{Output, Told, Replied}
+use Rattle.space_model.specs.StackAnswers.{Pushes, Raws, Pops}
 use Rattle.space_model.specs.State.{State}
 
 -- the events and the reply of a command, and the state after it
 abbrev pub Effects : State → Command → List Event → Reply → State → Type 0
 Effects s (New root fields guard style) events reply t = News s root fields guard style events reply t
 Effects s (Set root value) events reply t = (events ≡ []) × Sets s root value reply t
+Effects s (DropRoot root) events reply t = (events ≡ []) × DropsRoot s root reply t
+Effects s (Push value) events reply t = (events ≡ []) × Pushes s value reply t
+Effects s (Raw word) events reply t = (events ≡ []) × Raws s word reply t
+Effects s Pop events reply t = (events ≡ []) × Pops s reply t
 Effects s (Store object index value) events reply t = (events ≡ []) × Stores s object index value reply t
 Effects s (Load root object index) events reply t = (events ≡ []) × Loads s root object index reply t
 Effects s (Same left right) events reply t = (events ≡ []) × Compares s left right reply t

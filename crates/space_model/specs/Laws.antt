@@ -1,15 +1,20 @@
 -- The laws of the definitions, which functions of this crate promise.
-use Rattle.std.specs.Prelude.{◌≡◌, ◌↔◌, ℕ, Bool, true, List, nat_eq}
+use Rattle.std.specs.Prelude.{◌≡◌, ◌↔◌, ℕ, Bool, true, List, Option, nat_eq}
 use Rattle.std.specs.List.{IsDistinct}
 use Rattle.std.specs.Set.{is_member}
 use Rattle.space_model.specs.declared.command.Command.{Command}
+use Rattle.space_model.specs.declared.command.Input.{Input}
+use Rattle.space_model.specs.declared.command.Operand.TheVariants.{Word}
+use Rattle.space_model.specs.declared.reply.Reply.TheVariants.{Pushed}
 use Rattle.space_model.specs.Graph.{IsChild}
 use Rattle.space_model.specs.Lawful.{Lawful, LawfulAll}
 use Rattle.space_model.specs.Moments.{noted, SameMoments}
+use Rattle.space_model.specs.Operands.{operand_value, input_value}
 use Rattle.space_model.specs.Outputs.{Output}
 use Rattle.space_model.specs.Reach.{Reach, IsStart}
 use Rattle.space_model.specs.Reached.{reached_names}
-use Rattle.space_model.specs.Sound.{Sound, SoundMoments, IsGivenSmall, AreGivenSmall}
+use Rattle.space_model.specs.Sound.{Sound, SoundMoments, IsSmallInput, IsGivenSmall, AreGivenSmall}
+use Rattle.space_model.specs.StackAnswers.{Pushes}
 use Rattle.space_model.specs.State.{State, opening}
 use Rattle.space_model.specs.Texts.{text_of, AreSpelled}
 
@@ -49,6 +54,10 @@ LawfulIsSound = (s t : State) (command : Command) (outputs : List Output) → Is
 
 abbrev pub LawfulAllIsSound : Type 0
 LawfulAllIsSound = (s t : State) (commands : List Command) (outputs : List Output) → AreGivenSmall commands → LawfulAll s commands outputs t → Sound s → Sound t
+
+-- after a push the top of the stack has the value that was pushed
+abbrev pub PushedIsTop : Type 0
+PushedIsTop = (s t : State) (input : Input) (word : ℕ) (names : Option ℕ) → IsSmallInput input → Sound s → Pushes s input (Pushed word names) t → operand_value t (Word 0) ≡ input_value s input
 
 -- different outputs have different texts
 abbrev pub TextsDiffer : Type 0

@@ -15,6 +15,7 @@ pub mod Pieces
 pub mod Refusals
 pub mod Operands
 pub mod Answers
+pub mod StackAnswers
 pub mod New
 pub mod Lawful
 pub mod Sound

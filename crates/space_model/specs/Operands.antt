@@ -1,8 +1,8 @@
--- What operands stand for.
+-- What operands stand for, and the words of values.
 use Rattle.std.specs.Prelude.{ℕ, ◌/◌, ◌%◌, ◌^◌, ◌==◌, ◌&&◌, nat_lt, if◌then◌else◌, reverse, List, Option, None, Some, Result, Ok, Err, slice_get}
-use Rattle.std.specs.Option.{ok_or, option_map}
+use Rattle.std.specs.Option.{ok_or, option_map, unwrap_or}
 use Rattle.std.specs.Ordering.{nat_cmp}
-use Rattle.std.specs.FinMap.{FinMap}
+use Rattle.std.specs.FinMap.{FinMap, get}
 use Rattle.space_model.specs.declared.command.Input.{Input}
 use Rattle.space_model.specs.declared.command.Input.TheVariants.{From, Nil as NilInput, Small as SmallInput}
 use Rattle.space_model.specs.declared.command.Operand.{Operand}
@@ -13,16 +13,26 @@ use Rattle.space_model.specs.declared.value.Value.{Value}
 use Rattle.space_model.specs.declared.value.Value.TheVariants.{Nil, Small, Name}
 use Rattle.space_model.specs.Graph.{Item}
 use Rattle.space_model.specs.Reached.{names_at}
-use Rattle.space_model.specs.Refusals.{and_then}
 use Rattle.space_model.specs.Roots.{Root, root_value}
 use Rattle.space_model.specs.State.{State}
+use Rattle.space_model.specs.Words.{small_number_word}
+
+-- the name that the word names: the one that stands at this address
+abbrev pub named_by : FinMap nat_cmp ℕ → ℕ → Option ℕ
+named_by place word = slice_get (names_at place word) 0
+
+-- the word of a value: 0 for nil, 2i + 1 for a small integer i, its place for a name, which is present wherever it is a value
+abbrev pub value_word : FinMap nat_cmp ℕ → Value → ℕ
+value_word place Nil = 0
+value_word place (Small number) = small_number_word number
+value_word place (Name name) = unwrap_or (get place name) 0
 
 -- the value of a word of the stack: nil for 0, a small integer for an odd word below 2 ^ 63, the name that it names, else none
 abbrev pub word_value : FinMap nat_cmp ℕ → ℕ → Option Value
 word_value place word =
     if word == 0 then Some Nil
     else if nat_lt word (2 ^ 63) && (word % 2 == 1) then Some (Small (word / 2))
-    else option_map Name (slice_get (names_at place word) 0)
+    else option_map Name (named_by place word)
 
 abbrev pub word_value_in : FinMap nat_cmp ℕ → Option ℕ → Result Value Refusal
 word_value_in place None = Err NoWord

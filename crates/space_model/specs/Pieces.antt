@@ -1,4 +1,5 @@
--- The state after a piece of work: a birth, a root or a field written. What is reached is noted after each.
+-- The state after a piece of work: a birth, a root or a field written, a root taken away, another stack. What is reached is noted
+-- after each.
 use Rattle.std.specs.Prelude.{◌≡◌, ℕ, ◌+◌, ◌-◌, ◌&&◌, not, List, [], ◌∷◌, ◌++◌, length, replicate, nat_eq, slice_set}
 use Rattle.std.specs.List.{filter}
 use Rattle.std.specs.FinMap.{insert}
@@ -10,7 +11,7 @@ use Rattle.space_model.specs.Graph.{Item, item_of}
 use Rattle.space_model.specs.Layout.{page_of, pool_for}
 use Rattle.space_model.specs.Moments.{noted}
 use Rattle.space_model.specs.Pages.{with_pool}
-use Rattle.space_model.specs.Roots.{with_root}
+use Rattle.space_model.specs.Roots.{with_root, without_root}
 use Rattle.space_model.specs.State.{State}
 
 -- an object whose fields are nil
@@ -37,6 +38,20 @@ rooted s root value = record s { roots = with_root s.roots root value }
 
 abbrev pub Rooted : State → List ℕ → Value → State → Type 0
 Rooted s root value t = t ≡ noted (rooted s root value)
+
+-- the root is taken away
+abbrev pub unrooted : State → List ℕ → State
+unrooted s root = record s { roots = without_root s.roots root }
+
+abbrev pub Unrooted : State → List ℕ → State → Type 0
+Unrooted s root t = t ≡ noted (unrooted s root)
+
+-- the stack has these words
+abbrev pub stacked : State → List ℕ → State
+stacked s words = record s { stack = words }
+
+abbrev pub Stacked : State → List ℕ → State → Type 0
+Stacked s words t = t ≡ noted (stacked s words)
 
 abbrev pub item_stored : Item → ℕ → Value → Item
 item_stored item index value = record item { values = slice_set item.values index value }

@@ -19,6 +19,11 @@ abbrev pub with_root : List Root → List ℕ → Value → List Root
 with_root [] name value = (name, value) ∷ []
 with_root (root ∷ roots) name value = if bytes_eq name root.0 then (root.0, value) ∷ roots else root ∷ with_root roots name value
 
+-- the roots after one is taken away: the others keep their order
+abbrev pub without_root : List Root → List ℕ → List Root
+without_root [] name = []
+without_root (root ∷ roots) name = if bytes_eq name root.0 then roots else root ∷ without_root roots name
+
 -- the names that roots hold
 unfoldable pub root_names : List Root → List ℕ
 root_names roots = flat_map (λ root. names_of root.1) roots

@@ -5,7 +5,7 @@ use Rattle.std.specs.Ordering.{nat_cmp}
 use Rattle.std.specs.Set.{is_member}
 use Rattle.std.specs.FinMap.{FinMap, get}
 use Rattle.space_model.specs.declared.command.Command.{Command}
-use Rattle.space_model.specs.declared.command.Command.TheVariants.{New, Set, Store, Load, Same}
+use Rattle.space_model.specs.declared.command.Command.TheVariants.{Set, Push, Store}
 use Rattle.space_model.specs.declared.command.Input.{Input}
 use Rattle.space_model.specs.declared.command.Input.TheVariants.{From, Nil as NilInput, Small as SmallInput}
 use Rattle.space_model.specs.declared.value.Value.{Value}
@@ -88,6 +88,7 @@ IsSmallInput (SmallInput number) = number < 2 ^ 62
 
 abbrev pub IsGivenSmall : Command → Type 0
 IsGivenSmall (Set root value) = IsSmallInput value
+IsGivenSmall (Push value) = IsSmallInput value
 IsGivenSmall (Store object index value) = IsSmallInput value
 IsGivenSmall _ = Unit {0}
 

@@ -1,5 +1,5 @@
 -- The bytes of the outputs. The texts are this project's own.
-use Rattle.std.specs.Prelude.{ℕ, Bool, true, false, List, [], ◌∷◌, ◌++◌, codes}
+use Rattle.std.specs.Prelude.{ℕ, Bool, true, false, Option, None, Some, List, [], ◌∷◌, ◌++◌, codes}
 use Rattle.std.specs.List.{flat_map}
 use Rattle.space_model.specs.declared.event.Event.{Event}
 use Rattle.space_model.specs.declared.event.Event.TheVariants.{Gone, Verdict}
@@ -8,7 +8,7 @@ use Rattle.space_model.specs.declared.event.Kind.TheVariants.{Minor, Major, Full
 use Rattle.space_model.specs.declared.reply.Refusal.{Refusal}
 use Rattle.space_model.specs.declared.reply.Refusal.TheVariants.{TooLarge, NoRoot, NoWord, NotObject, NoField}
 use Rattle.space_model.specs.declared.reply.Reply.{Reply}
-use Rattle.space_model.specs.declared.reply.Reply.TheVariants.{Made, Full, NoMemory, Done, Read, Truth, Refused}
+use Rattle.space_model.specs.declared.reply.Reply.TheVariants.{Made, Full, NoMemory, Done, Pushed, Read, Truth, Refused}
 use Rattle.space_model.specs.declared.value.Value.{Value}
 use Rattle.space_model.specs.declared.value.Value.TheVariants.{Nil, Small, Name}
 use Rattle.space_model.specs.Outputs.{Output, Told, Replied}
@@ -39,11 +39,16 @@ abbrev pub truth_text : Bool → List ℕ
 truth_text true = codes "true"
 truth_text false = codes "false"
 
+abbrev pub named_pieces : Option ℕ → List Piece
+named_pieces None = Say (codes "-") ∷ []
+named_pieces (Some name) = Say (codes "#") ∷ Number name ∷ []
+
 abbrev pub reply_pieces : Reply → List Piece
 reply_pieces (Made name address) = Say (codes "#") ∷ Number name ∷ Say (codes " ") ∷ Hex address ∷ []
 reply_pieces Full = Say (codes "full") ∷ []
 reply_pieces NoMemory = Say (codes "no memory") ∷ []
 reply_pieces Done = Say (codes "ok") ∷ []
+reply_pieces (Pushed word names) = Say (codes "word ") ∷ Hex word ∷ Say (codes " names ") ∷ named_pieces names
 reply_pieces (Read value) = value_pieces value
 reply_pieces (Truth answer) = Say (truth_text answer) ∷ []
 reply_pieces (Refused why) = Say (refusal_text why) ∷ []

@@ -36,6 +36,20 @@ pub enum Command {
         root: Ident,
         value: Input,
     },
+    /// The root is taken away; the others keep their order.
+    DropRoot {
+        root: Ident,
+    },
+    /// The word of the value goes on the stack.
+    Push {
+        value: Input,
+    },
+    /// The word goes on the stack as it is.
+    Raw {
+        word: u64,
+    },
+    /// The top word of the stack is taken away.
+    Pop,
     /// A field of the object becomes the value, with the write barrier.
     Store {
         object: Operand,

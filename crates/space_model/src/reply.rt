@@ -27,6 +27,8 @@ pub enum Reply {
     NoMemory,
     /// The command was done.
     Done,
+    /// The word went on the stack, and names the object with this name, if any.
+    Pushed { word: u64, names: Option<u64> },
     /// The value that was read.
     Read { value: Value },
     /// The answer to a question.

@@ -1,9 +1,2 @@
-mod RootLemmas
-mod ObjectLemmas
-mod Addresses
-mod FillLemmas
-mod Placing
-mod Answering
-mod Stepping
 mod WordsLemmas
 mod Replaying

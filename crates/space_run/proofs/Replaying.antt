@@ -1,30 +1,31 @@
 -- A replay goes on by one line, and how it ends.
 use Rattle.std.proofs.lemmas.Bool.Decides.{eqb_tells}
-use Rattle.std.proofs.Common.{◌≡◌, ◌≢◌, ◌⊎◌, ◌+◌, ◌≤◌, ◌<◌, ◌^◌, ℕ, List, [], ◌∷◌, ◌++◌, Option, Some, None, refl, ap, ◌∙◌, sym, subst, Result, Ok, Err, is_err, OnOk, false, true, IsTrue, IsFalse, Bool, length, length-append, arith, inl, inr, ⊎_elim}
+use Rattle.std.proofs.Common.{◌≡◌, ◌≢◌, ◌⊎◌, ◌+◌, ◌≤◌, ◌<◌, ◌^◌, ℕ, List, [], ◌∷◌, ◌++◌, Option, Some, None, refl, ap, ◌∙◌, sym, subst, Result, Ok, Err, is_err, IfOk, false, true, IsTrue, IsFalse, Bool, length, length-append, arith, inl, inr, ⊎_elim}
 use mathlib.Core.List.{append_assoc}
 use Rattle.std.specs.List.{onto_first}
 use Rattle.std.proofs.lemmas.List.{append-nil}
-use Rattle.std.specs.Io.KnownBytes.{Appends, Consumes, IsAtEnd}
+use Rattle.std.specs.Io.KnownBytes.{Appends, Consumes}
 use Rattle.std.proofs.KnownBytes.{Appends-nil, Appends-trans, Consumes-nil, Consumes-trans}
 use Rattle.space_io.specs.Reading.{Reading, Takes, Gives, IsUnfinished, at_start}
 use Rattle.space_io.specs.Next.{IsEnd}
 use Rattle.space_model.specs.declared.command.Command.{Command}
 use Rattle.space_model.specs.Grammar.{AreCommands, IsReading}
-use Rattle.space_model.specs.Lawful.{LawfulAll}
 use Rattle.space_model.specs.Lines.{lines_of, HasNoLf, StartsTooLong, MOST_BYTES}
-use Rattle.space_model.specs.Outputs.{Output}
 use Rattle.space_model.specs.State.{opening}
-use Rattle.space_model.specs.Texts.{text_of, AreSpelled, line_of_pieces, malformed_pieces}
+use Rattle.space_model.specs.Texts.{text_of, line_of_pieces, malformed_pieces}
 use Rattle.space_model.proofs.RunLemmas.{LawfulAll-more, AreCommands-more, text_of-append, AreSpelled-append}
 use Rattle.space_run.specs.Progress.{HasReplayed}
 use Rattle.space_run.specs.Replays.{Replays, StopsAtLine, HasBadNext, IsCutOff, HasFailedRead, HasReachedLimit, IsMalformed, IsWholeInput}
-use Rattle.space_run.specs.Stands.{Stands}
-use Rattle.space_run.specs.Steps.{Steps}
-use Rattle.space_run.specs.Views.{View, empty_view}
+use Rattle.space_engine.specs.declared.counts.Counts.{Counts}
+use Rattle.space_engine.specs.declared.space.StepFault.{StepFault}
+use Rattle.space_engine.specs.Counting.{counts_of}
+use Rattle.space_engine.specs.Stands.{Stands}
+use Rattle.space_engine.specs.Steps.{Steps}
+use Rattle.space_engine.specs.Views.{SpaceView}
 
 -- before the first line
-pub started : (r w : Option (List ℕ)) (limit : ℕ) → Stands (empty_view limit) (opening limit) → HasReplayed limit r r w w at_start (empty_view limit)
-started r w limit stands = record {
+pub started : (r w : Option (List ℕ)) (limit : ℕ) (view : SpaceView) → Stands view (opening limit) → HasReplayed limit r r w w at_start view
+started r w limit view stands = record {
   bytes = [];
   taken = Consumes-nil r;
   lines = [];
@@ -43,7 +44,7 @@ started r w limit stands = record {
 }
 
 -- more bytes were taken
-pub after_taking : (limit : ℕ) (r0 r r' w0 w : Option (List ℕ)) (old mid : Reading) (view : View) → HasReplayed limit r0 r w0 w old view → Takes r r' old mid → HasReplayed limit r0 r' w0 w mid view
+pub after_taking : (limit : ℕ) (r0 r r' w0 w : Option (List ℕ)) (old mid : Reading) (view : SpaceView) → HasReplayed limit r0 r w0 w old view → Takes r r' old mid → HasReplayed limit r0 r' w0 w mid view
 after_taking limit r0 r r' w0 w old mid view h takes = record {
   bytes = h.bytes ++ takes.bytes;
   taken = Consumes-trans r0 r r' h.bytes takes.bytes h.taken takes.consumed;
@@ -64,11 +65,16 @@ after_taking limit r0 r r' w0 w old mid view h takes = record {
   written = h.written;
 }
 
+-- a call that isn't an error kept its promise
+kept_promise : {T E : Type 0} {P : T → Type 0} (result : Result T E) → is_err result ≡ false → IfOk result P → (x : T) × P x
+kept_promise (Ok x) e h = (x, h)
+kept_promise (Err x) e h = cc
+
 -- the next line was given, and its command answered
-pub after_line : (limit : ℕ) (r0 r w0 w w' : Option (List ℕ)) (mid new : Reading) (old_view view : View) (command : Command) → HasReplayed limit r0 r w0 w mid old_view → Gives mid new →
-    IsReading new.line (Some command) → Steps old_view view command (Appends w w') → HasReplayed limit r0 r w0 w' new view
-after_line limit r0 r w0 w w' mid new old_view view command h gives reading steps =
-    let step = steps h.state h.stands in
+pub after_line : (limit : ℕ) (r0 r w0 w w' : Option (List ℕ)) (mid new : Reading) (old_view view : SpaceView) (command : Command) → HasReplayed limit r0 r w0 w mid old_view → Gives mid new →
+    IsReading new.line (Some command) → (result : Result Counts StepFault) → is_err result ≡ false → IfOk result (λ counts. Steps old_view view command (λ outputs. (counts ≡ counts_of outputs) × Appends w w' (text_of outputs))) → HasReplayed limit r0 r w0 w' new view
+after_line limit r0 r w0 w w' mid new old_view view command h gives reading result no_err steps =
+    let step = (kept_promise result no_err steps).1 h.state h.stands in
     record {
       bytes = h.bytes;
       taken = h.taken;
@@ -85,11 +91,11 @@ after_line limit r0 r w0 w w' mid new old_view view command h gives reading step
       stands = step.stands;
       lawful = LawfulAll-more (opening limit) h.state step.state h.commands command h.outputs step.outputs h.lawful step.lawful;
       spelled = AreSpelled-append h.outputs step.outputs h.spelled step.spelled;
-      written = rw text_of-append (Appends-trans w0 w w' _ _ h.written step.written);
+      written = rw text_of-append (Appends-trans w0 w w' _ _ h.written step.so.1);
     }
 
 -- the next line was given, and it is blank
-pub after_blank : (limit : ℕ) (r0 r w0 w : Option (List ℕ)) (mid new : Reading) (view : View) → HasReplayed limit r0 r w0 w mid view → Gives mid new →
+pub after_blank : (limit : ℕ) (r0 r w0 w : Option (List ℕ)) (mid new : Reading) (view : SpaceView) → HasReplayed limit r0 r w0 w mid view → Gives mid new →
     IsReading new.line None → HasReplayed limit r0 r w0 w new view
 after_blank limit r0 r w0 w mid new view h gives reading = record {
   bytes = h.bytes;
@@ -111,7 +117,7 @@ after_blank limit r0 r w0 w mid new view h gives reading = record {
 }
 
 -- the end was reached
-pub at_the_end : (limit : ℕ) (r0 r w0 w : Option (List ℕ)) (mid new : Reading) (view : View) → HasReplayed limit r0 r w0 w mid view → IsEnd mid new → Replays limit r0 r w0 w
+pub at_the_end : (limit : ℕ) (r0 r w0 w : Option (List ℕ)) (mid new : Reading) (view : SpaceView) → HasReplayed limit r0 r w0 w mid view → IsEnd mid new → Replays limit r0 r w0 w
 at_the_end limit r0 r w0 w mid new view h end =
     let pending : h.lines ++ lines_of (mid.pending ++ []) ≡ h.lines = rw end.pending (append-nil h.lines) in
     let all : lines_of h.bytes ≡ h.lines = ap lines_of (sym (append-nil h.bytes)) ∙ h.cut [] (λ told. refl) ∙ pending in
@@ -129,13 +135,8 @@ at_the_end limit r0 r w0 w mid new view h end =
       written = h.written;
     }
 
--- a call that isn't an error kept its promise
-pub kept_promise : {T E P : Type 0} (result : Result T E) → is_err result ≡ false → OnOk result P → P
-kept_promise (Ok x) e h = h
-kept_promise (Err x) e h = cc
-
 -- the next line is bad, and that was written
-pub stopped : (limit : ℕ) (r0 r w0 w w' : Option (List ℕ)) (mid : Reading) (view : View) (number : ℕ) → (h : HasReplayed limit r0 r w0 w mid view) → mid.taken ≤ 2 ^ 32 → number ≡ mid.number + 1 →
+pub stopped : (limit : ℕ) (r0 r w0 w w' : Option (List ℕ)) (mid : Reading) (view : SpaceView) (number : ℕ) → (h : HasReplayed limit r0 r w0 w mid view) → mid.taken ≤ 2 ^ 32 → number ≡ mid.number + 1 →
     ((more : List ℕ) → (IsTrue mid.ended → more ≡ []) → HasBadNext (h.bytes ++ more) h.lines) → Appends w w' (line_of_pieces (malformed_pieces number)) → StopsAtLine limit r0 r w0 w'
 stopped limit r0 r w0 w w' mid view number h few e next written =
     let place : number ≡ length h.lines + 1 = e ∙ ap (λ n. n + 1) h.numbered in
@@ -157,7 +158,7 @@ stopped limit r0 r w0 w w' mid view number h few e next written =
     }
 
 -- a line that was given is malformed
-pub malformed_line : (limit : ℕ) (r0 r w0 w : Option (List ℕ)) (mid new : Reading) (view : View) → (h : HasReplayed limit r0 r w0 w mid view) → Gives mid new → IsMalformed new.line →
+pub malformed_line : (limit : ℕ) (r0 r w0 w : Option (List ℕ)) (mid new : Reading) (view : SpaceView) → (h : HasReplayed limit r0 r w0 w mid view) → Gives mid new → IsMalformed new.line →
     (more : List ℕ) → (IsTrue mid.ended → more ≡ []) → HasBadNext (h.bytes ++ more) h.lines
 malformed_line limit r0 r w0 w mid new view h gives malformed more ended = record {
   bad = new.line;
@@ -196,7 +197,7 @@ starts_long [] rest h some = absurd (omega arith)
 starts_long (b ∷ front) rest h some = begins_long b front rest h
 
 -- the next line is too long
-pub long_line : (limit : ℕ) (r0 r w0 w : Option (List ℕ)) (mid : Reading) (view : View) → (h : HasReplayed limit r0 r w0 w mid view) → StartsTooLong mid.pending →
+pub long_line : (limit : ℕ) (r0 r w0 w : Option (List ℕ)) (mid : Reading) (view : SpaceView) → (h : HasReplayed limit r0 r w0 w mid view) → StartsTooLong mid.pending →
     (more : List ℕ) → (IsTrue mid.ended → more ≡ []) → HasBadNext (h.bytes ++ more) h.lines
 long_line limit r0 r w0 w mid view h long more ended =
     let bytes : mid.pending ++ more ≡ long.front ++ (long.rest ++ more) = rw long.whole (append_assoc long.front long.rest more) in
@@ -214,7 +215,7 @@ never_both : (b : Bool) → IsFalse b → IsTrue b → ⊥
 never_both b is_false is_true = let both : false ≡ true = sym is_false ∙ is_true in cc
 
 -- no more lines are whole
-cut_off : (limit : ℕ) (r0 r w0 w : Option (List ℕ)) (mid : Reading) (view : View) → (h : HasReplayed limit r0 r w0 w mid view) → IsUnfinished mid → IsCutOff limit r0 r w0 w h.bytes
+cut_off : (limit : ℕ) (r0 r w0 w : Option (List ℕ)) (mid : Reading) (view : SpaceView) → (h : HasReplayed limit r0 r w0 w mid view) → IsUnfinished mid → IsCutOff limit r0 r w0 w h.bytes
 cut_off limit r0 r w0 w mid view h unfinished = record {
   taken = h.taken;
   lines = h.lines;
@@ -231,10 +232,10 @@ cut_off limit r0 r w0 w mid view h unfinished = record {
   written = h.written;
 }
 
-pub read_failed : (limit : ℕ) (r0 r w0 w : Option (List ℕ)) (mid : Reading) (view : View) → HasReplayed limit r0 r w0 w mid view → IsUnfinished mid → mid.taken < 2 ^ 32 → HasFailedRead limit r0 r w0 w
+pub read_failed : (limit : ℕ) (r0 r w0 w : Option (List ℕ)) (mid : Reading) (view : SpaceView) → HasReplayed limit r0 r w0 w mid view → IsUnfinished mid → mid.taken < 2 ^ 32 → HasFailedRead limit r0 r w0 w
 read_failed limit r0 r w0 w mid view h unfinished few = record { bytes = h.bytes; few = rw h.counted at few; cut_off = cut_off limit r0 r w0 w mid view h unfinished }
 
-pub limit_reached : (limit : ℕ) (r0 r w0 w : Option (List ℕ)) (mid : Reading) (view : View) → HasReplayed limit r0 r w0 w mid view → IsUnfinished mid → mid.taken ≡ 2 ^ 32 → HasReachedLimit limit r0 r w0 w
+pub limit_reached : (limit : ℕ) (r0 r w0 w : Option (List ℕ)) (mid : Reading) (view : SpaceView) → HasReplayed limit r0 r w0 w mid view → IsUnfinished mid → mid.taken ≡ 2 ^ 32 → HasReachedLimit limit r0 r w0 w
 limit_reached limit r0 r w0 w mid view h unfinished many = record { bytes = h.bytes; many = sym h.counted ∙ many; cut_off = cut_off limit r0 r w0 w mid view h unfinished }
 
 -- what is left of a whole input

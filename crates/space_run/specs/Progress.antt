@@ -9,10 +9,10 @@ use Rattle.space_model.specs.Lines.{lines_of}
 use Rattle.space_model.specs.Outputs.{Output}
 use Rattle.space_model.specs.State.{State, opening}
 use Rattle.space_model.specs.Texts.{text_of, AreSpelled}
-use Rattle.space_run.specs.Stands.{Stands}
-use Rattle.space_run.specs.Views.{View}
+use Rattle.space_engine.specs.Stands.{Stands}
+use Rattle.space_engine.specs.Views.{SpaceView}
 
-pub record HasReplayed (limit : ℕ) (rest_before rest_after written_before written_after : Option (List ℕ)) (reading : Reading) (view : View) : Type 0 where
+pub record HasReplayed (limit : ℕ) (rest_before rest_after written_before written_after : Option (List ℕ)) (reading : Reading) (view : SpaceView) : Type 0 where
   pub bytes : List ℕ
   pub taken : Consumes rest_before rest_after bytes
   pub lines : List (List ℕ)

@@ -1,5 +1,5 @@
 // Replays a trace.
-ghost use Rattle.std.specs.Prelude.{◌≡◌, ◌≢◌, ◌<◌, ◌≤◌, ◌⊎◌, ◌↔◌, ℕ, List, Some, IsTrue, MatchOption, map, slice_get, vec_len};
+ghost use Rattle.std.specs.Prelude.{◌≡◌, ◌≢◌, ◌<◌, ◌≤◌, ◌⊎◌, ◌↔◌, ℕ, List, Some, false, IsTrue, MatchOption, map, slice_get, vec_len};
 ghost use Rattle.std.specs.String.{string_bytes};
 ghost use Rattle.std.specs.Io.KnownBytes.{Appends};
 ghost use Rattle.space_io.specs.Causes.{Rose};
@@ -8,13 +8,14 @@ ghost use Rattle.space_model.specs.Grammar.{IsNumber};
 ghost use Rattle.space_model.specs.State.{opening};
 ghost use Rattle.space_model.specs.Texts.{line_of_pieces, malformed_pieces};
 ghost use Rattle.space_run.specs.Replays.{Replays, StopsAtLine, HasFailedRead, HasReachedLimit, IsReplay, IsWholeInput, IsCalm};
-ghost use Rattle.space_run.specs.Stands.{Stands};
-ghost use Rattle.space_run.specs.Views.{empty_view};
+ghost use Rattle.space_engine.specs.Stands.{Stands};
 
-use crate::engine::Space;
+use space_engine::Space;
 use space_io::{LineFault, Lines, Sink, Source};
+use space_model::Steps;
 use space_trace::{read_command, read_number, write_malformed};
 use std::alloc::Global;
+use std::sync::ledger::Blank;
 
 /// The most pages of a space, where the words say nothing of them.
 const PAGES: u32 = 256;
@@ -43,19 +44,21 @@ fn replay<S: Source, K: Sink>(
     sink: &mut K,
 ) -> u8
     requires lines { lines ≡ at_start }
-    requires space { space ≡ empty_view space.limit }
-    requires stands { Stands (empty_view space.limit) (opening space.limit) }
+    requires able { space.is_spent ≡ false }
+    requires turns { space.turns ≡ 0 }
+    requires stands { Stands space (opening space.parts.limit) }
 
     ensures status { (result ≢ 1) × (result ≢ 2) × (result ≤ 6) }
-    ensures done { result ≡ 0 → Replays space.limit (S.rest source.old) (S.rest source.new) (K.written sink.old) (K.written sink.new) }
-    ensures malformed { result ≡ 3 → StopsAtLine space.limit (S.rest source.old) (S.rest source.new) (K.written sink.old) (K.written sink.new) }
+    ensures done { result ≡ 0 → Replays space.parts.limit (S.rest source.old) (S.rest source.new) (K.written sink.old) (K.written sink.new) }
+    ensures malformed { result ≡ 3 → StopsAtLine space.parts.limit (S.rest source.old) (S.rest source.new) (K.written sink.old) (K.written sink.new) }
     ensures read_fault { result ≡ 4 → Rose (S.faults source.old) (S.faults source.new) }
-    ensures answered { result ≡ 4 → HasFailedRead space.limit (S.rest source.old) (S.rest source.new) (K.written sink.old) (K.written sink.new) }
+    ensures answered { result ≡ 4 → HasFailedRead space.parts.limit (S.rest source.old) (S.rest source.new) (K.written sink.old) (K.written sink.new) }
     ensures write_fault { result ≡ 5 → Rose (K.faults sink.old) (K.faults sink.new) }
-    ensures limit { result ≡ 6 → HasReachedLimit space.limit (S.rest source.old) (S.rest source.new) (K.written sink.old) (K.written sink.new) }
+    ensures limit { result ≡ 6 → HasReachedLimit space.parts.limit (S.rest source.old) (S.rest source.new) (K.written sink.old) (K.written sink.new) }
     ensures reads_counted { S.faults source.old ≤ S.faults source.new }
     ensures writes_counted { K.faults sink.old ≤ K.faults sink.new }
 {
+    let mut steps = Steps::start(Blank::new(1));
     let mut number = 0;
     'each_line: loop {
         let line = match lines.next(source) {
@@ -72,7 +75,7 @@ fn replay<S: Source, K: Sink>(
         let Some(command) = found else {
             continue;
         };
-        if space.step(&command, sink).is_err() {
+        if space.step(&command, sink, &mut steps).is_err() {
             return 5;
         }
     }
@@ -167,5 +170,8 @@ pub fn run<S: Source, K: Sink>(
     let Ok(lines) = Lines::new(alloc) else {
         return 1;
     };
-    replay(lines, Space::new(alloc, limit), source, sink)
+    let Ok(space) = Space::new(alloc, limit) else {
+        return 1;
+    };
+    replay(lines, space, source, sink)
 }

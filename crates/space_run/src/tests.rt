@@ -53,13 +53,28 @@ fn traces_are_answered(rt: HostRuntime) -> Result<(), Fail> {
     // Blank lines have no answer and count; one CR is dropped, and two aren't.
     let blank: &[u8] = b"; a comment\n\n\r\nnew a 0 P M\r\n;\nset b a\r\r\n";
     let blank_text: &[u8] = b"#1 0x10000\nline 6: malformed\n";
-    let cases: [(&[u8], u8, &[u8]); 6] = [
+    // A stack word has a value only where it is the word of one; a root that was taken away is no root.
+    let words: &[u8] =
+        b"new a 0 P M\npush a\npush =5\nraw 0x10001\nraw 0x10008\nset b @0\nset b @4\nset b @3\nsame a b\nsame @2 @1\npush @2\npop\npop\npop\npop\npop\npop\ndrop a\ndrop a\nsame b b\npush q\nraw 0x8000000000000001\nset c @0\nsame c c\npush @0\nstore b 0 @1\nstore b 0 @0\n";
+    let words_text: &[u8] =
+        b"#1 0x10000\nword 0x10000 names #1\nword 0xb names -\nword 0x10001 names -\nword 0x10008 names -\nerror not an object\nerror no word\nok\ntrue\nfalse\nword 0xb names -\nok\nok\nok\nok\nok\nerror no word\nok\nerror no root\ntrue\nerror no root\nword 0x8000000000000001 names -\nerror not an object\nerror no root\nerror not an object\nerror no word\nerror not an object\n";
+    // The largest object; and words inside an object, or above all addresses, which name nothing.
+    let largest: &[u8] = b"new a 78 P M\nnew a 79 P M\npush a\n";
+    let largest_text: &[u8] = b"#1 0x10000\nerror too large\nword 0x10000 names #1\n";
+    let inside: &[u8] =
+        b"new a 3 P M\nraw 0x10029\nraw 0xffffffffffffffff\nsame @0 @0\nstore a 0 @1\nload s a 0\npush =4611686018427387903\n";
+    let inside_text: &[u8] =
+        b"#1 0x10000\nword 0x10029 names -\nword 0xffffffffffffffff names -\nerror not an object\nok\n=32788\nword 0x7fffffffffffffff names -\n";
+    let cases: [(&[u8], u8, &[u8]); 9] = [
         (b"", 0, b""),
         (linked, 0, linked_text),
         (read_first, 0, read_first_text),
         (order, 0, order_text),
         (sizes, 0, sizes_text),
         (blank, 3, blank_text),
+        (words, 0, words_text),
+        (largest, 0, largest_text),
+        (inside, 0, inside_text),
     ];
     for (trace, wanted_status, wanted) in cases {
         let (status, text) = replayed(alloc, &["replay"], trace, Vec::new(alloc), Vec::new(alloc))?;

@@ -6,14 +6,14 @@ use Rattle.std.specs.List.{slice_index, onto_first}
 use Rattle.std.specs.Str.{bytes_eq}
 use Rattle.std.specs.Str.Parse.{digits_value}
 use Rattle.space_model.specs.declared.command.Command.{Command}
-use Rattle.space_model.specs.declared.command.Command.TheVariants.{New, Set, Store, Load, Same}
+use Rattle.space_model.specs.declared.command.Command.TheVariants.{New, Set, DropRoot, Push, Raw, Pop, Store, Load, Same}
 use Rattle.space_model.specs.declared.command.Input.{Input}
 use Rattle.space_model.specs.declared.command.Input.TheVariants.{From, Nil, Small}
 use Rattle.space_model.specs.declared.command.Operand.{Operand}
 use Rattle.space_model.specs.declared.command.Operand.TheVariants.{Root, Word}
 use Rattle.space_model.specs.declared.object.Guard.TheVariants.{Protected}
 use Rattle.space_model.specs.declared.object.Style.TheVariants.{Movable}
-use Rattle.space_model.specs.Grammar.{IsOperand, IsInput, IsCommand, IsBlank, IsReading, AreCommands, Commands, words_of, without_cr}
+use Rattle.space_model.specs.Grammar.{IsHex, IsOperand, IsInput, IsCommand, IsBlank, IsReading, AreCommands, Commands, words_of, without_cr}
 use Rattle.space_model.specs.Idents.{IsIdent, is_first_byte}
 use Rattle.space_model.specs.Lines.{lines_of}
 use Rattle.space_model.specs.CommandTexts.{command_pieces, command_text, IsWritable}
@@ -23,7 +23,7 @@ use Rattle.space_trace.proofs.SpellingLemmas.{spelling_is_read}
 -- Each function below finds what a word is, or what words are, and anything where they are nothing.
 
 abbrev operand_of : List ℕ → Operand
-operand_of word = Root word
+operand_of word = if slice_index word 0 == 64 then Word (digits_value 10 (drop 1 word)) else Root word
 
 abbrev input_of : List ℕ → Input
 input_of word = if bytes_eq word (codes "nil") then Nil else if slice_index word 0 == 61 then Small (digits_value 10 (drop 1 word)) else From (operand_of word)
@@ -35,6 +35,18 @@ new_of _ = None
 abbrev set_of : List (List ℕ) → Option Command
 set_of (root ∷ value ∷ rest) = Some (Set root (input_of value))
 set_of _ = None
+
+abbrev drop_of : List (List ℕ) → Option Command
+drop_of (root ∷ rest) = Some (DropRoot root)
+drop_of _ = None
+
+abbrev push_of : List (List ℕ) → Option Command
+push_of (value ∷ rest) = Some (Push (input_of value))
+push_of _ = None
+
+abbrev raw_of : List (List ℕ) → Option Command
+raw_of (word ∷ rest) = Some (Raw (digits_value 16 (drop 2 word)))
+raw_of _ = None
 
 abbrev store_of : List (List ℕ) → Option Command
 store_of (object ∷ index ∷ value ∷ rest) = Some (Store (operand_of object) (digits_value 10 index) (input_of value))
@@ -52,6 +64,10 @@ abbrev form_of : List ℕ → List (List ℕ) → Option Command
 form_of name words =
     if bytes_eq name (codes "new") then new_of words
     else if bytes_eq name (codes "set") then set_of words
+    else if bytes_eq name (codes "drop") then drop_of words
+    else if bytes_eq name (codes "push") then push_of words
+    else if bytes_eq name (codes "raw") then raw_of words
+    else if bytes_eq name (codes "pop") then Some Pop
     else if bytes_eq name (codes "store") then store_of words
     else if bytes_eq name (codes "load") then load_of words
     else if bytes_eq name (codes "same") then same_of words
@@ -74,20 +90,30 @@ not_nil word h = same_false (bytes_eq word (codes "nil")) (λ e. h.not_nil ((byt
 not_small : (word : List ℕ) → IsIdent word → (slice_index word 0 == 61) ≡ false
 not_small word h = ne_eqb _ 61 (λ e. differ (subst (λ (x : ℕ). IsTrue (is_first_byte x)) e h.first))
 
+not_place : (word : List ℕ) → IsIdent word → (slice_index word 0 == 64) ≡ false
+not_place word h = ne_eqb _ 64 (λ e. differ (subst (λ (x : ℕ). IsTrue (is_first_byte x)) e h.first))
+
 operand_is : (word : List ℕ) (operand : Operand) → IsOperand word operand → operand_of word ≡ operand
-operand_is word (Root name) h = ap Root h.0
-operand_is word (Word place) h = absurd h
+operand_is word (Root name) h = rw (h.0, not_place name h.1) refl
+operand_is word (Word place) h = rw h.1 (ap Word (sym h.2.value))
 
 input_is : (word : List ℕ) (value : Input) → IsInput word value → input_of word ≡ value
-input_is word (From (Root name)) h = rw (h.0, not_nil name h.1, not_small name h.1) refl
-input_is word (From (Word place)) h = absurd h
+input_is word (From (Root name)) h = rw (h.0, not_nil name h.1, not_small name h.1, not_place name h.1) refl
+input_is word (From (Word place)) h = rw h.1 (ap (λ (n : ℕ). From (Word n)) (sym h.2.value))
 input_is word Nil h = rw h refl
 input_is word (Small number) h = rw h.1 (ap Small (sym h.2.value))
+
+raw_is : (text : List ℕ) (word : ℕ) → IsHex text word → raw_of (text ∷ []) ≡ Some (Raw word)
+raw_is text word h = rw h.is (ap (λ (n : ℕ). Some (Raw n)) (sym h.value))
 
 -- the command that words are is the one that is found
 pub command_is : (words : List (List ℕ)) (command : Command) → IsCommand words command → command_of words ≡ Some command
 command_is words (New root fields guard style) h = rw (h.1, h.3.value, h.4, h.5) refl
 command_is words (Set root value) h = rw (h.1, input_is h.0 value h.3) refl
+command_is words (DropRoot root) h = rw h.0 refl
+command_is words (Push value) h = rw (h.1, input_is h.0 value h.2) refl
+command_is words (Raw word) h = rw h.1 (raw_is h.0 word h.2)
+command_is words Pop h = rw h refl
 command_is words (Store object index value) h = rw (h.3, operand_is h.0 object h.4, h.5.value, input_is h.2 value h.6) refl
 command_is words (Load root object index) h = rw (h.2, operand_is h.0 object h.4, h.5.value) refl
 command_is words (Same left right) h = rw (h.2, operand_is h.0 left h.3, operand_is h.1 right h.4) refl
@@ -123,3 +149,15 @@ pub spellings_differ : (a b : Command) → IsWritable a → IsSpelled (command_p
 spellings_differ a b w s v t e =
     let first : IsReading (command_text b) (Some a) = subst (λ (line : List ℕ). IsReading line (Some a)) e (spelling_is_read a w s) in
     some_same a b (readings_same (command_text b) (Some a) (Some b) first (spelling_is_read b v t))
+
+-- what isn't spelled in base 16 is no word of `raw`
+no_raw_word : (word : List ℕ) → ((number : ℕ) → IsHex word number → ⊥) → (command : Command) → IsCommand (codes "raw" ∷ word ∷ []) command → ⊥
+no_raw_word word none command h =
+    let n = digits_value 16 (drop 2 word) in
+    let same : Raw n ≡ command = some_same (Raw n) command (command_is (codes "raw" ∷ word ∷ []) command h) in
+    let k : IsCommand (codes "raw" ∷ word ∷ []) (Raw n) = subst (λ (c : Command). IsCommand (codes "raw" ∷ word ∷ []) c) (sym same) h in
+    let w : k.0 ≡ word = (let e = k.1 in cc) in
+    none n (subst (λ (text : List ℕ). IsHex text n) w k.2)
+
+pub no_raw : (words : List (List ℕ)) (word : List ℕ) → words ≡ word ∷ [] → ((number : ℕ) → IsHex word number → ⊥) → (command : Command) → IsCommand (codes "raw" ∷ words) command → ⊥
+no_raw words word e none command h = no_raw_word word none command (rw e at h)

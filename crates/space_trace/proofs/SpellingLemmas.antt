@@ -9,7 +9,7 @@ use Rattle.std.specs.Fmt.{decimal}
 use Rattle.std.specs.List.{All}
 use Rattle.std.specs.Str.Parse.{AllDigits}
 use Rattle.space_model.specs.declared.command.Command.{Command}
-use Rattle.space_model.specs.declared.command.Command.TheVariants.{New, Set, Store, Load, Same}
+use Rattle.space_model.specs.declared.command.Command.TheVariants.{New, Set, DropRoot, Push, Raw, Pop, Store, Load, Same}
 use Rattle.space_model.specs.declared.command.Input.{Input}
 use Rattle.space_model.specs.declared.command.Input.TheVariants.{From, Nil, Small}
 use Rattle.space_model.specs.declared.command.Operand.{Operand}
@@ -19,8 +19,10 @@ use Rattle.space_model.specs.declared.object.Style.TheVariants.{Movable}
 use Rattle.space_model.specs.CommandTexts.{operand_pieces, input_pieces, command_pieces, command_text, IsWritableOperand, IsWritableInput, IsWritable}
 use Rattle.space_model.specs.Grammar.{IsNumber, IsOperand, IsInput, IsReading, words_of, without_cr}
 use Rattle.space_model.specs.Idents.{IsIdent, is_later_byte}
-use Rattle.space_model.specs.Spelling.{Piece, Say, text_of_pieces, IsSpelled}
+use Rattle.space_model.specs.Spelling.{Piece, Say, text_of_pieces, IsSpelled, hex}
+use Rattle.space_model.proofs.Cutting.{IsWord, IsWord-hex}
 use Rattle.space_trace.specs.WordsLeft.{HasNoSpace}
+use Rattle.space_trace.proofs.HexLemmas.{IsHex-hex}
 use Rattle.space_trace.proofs.PieceLemmas.{text_of_pieces_append}
 use Rattle.space_trace.proofs.WordLemmas.{words_of-cut, words_of-last}
 
@@ -87,23 +89,30 @@ plain_text (b ∷ text) e =
 IsPlain-decimal : (n : ℕ) → n < 2 ^ 64 → IsPlain (decimal n)
 IsPlain-decimal n fits = IsPlain-digits (decimal n) (IsNumber-decimal n fits).digits
 
+IsPlain-word : (text : List ℕ) → IsWord text → IsPlain text
+IsPlain-word [] h = tt
+IsPlain-word (b ∷ text) h = (later_is_not b 32 differ h.0, later_is_not b 13 differ h.0, IsPlain-word text h.1)
+
+IsPlain-hex : (n : ℕ) → IsPlain (hex n)
+IsPlain-hex n = IsPlain-word (hex n) (IsWord-hex n)
+
 -- operands and values
 
-operand_read : (operand : Operand) → IsWritableOperand operand → IsOperand (text_of_pieces (operand_pieces operand)) operand
-operand_read (Root name) h = (append-nil name, h)
-operand_read (Word place) h = absurd h
+operand_read : (operand : Operand) → IsWritableOperand operand → IsSpelled (operand_pieces operand) → IsOperand (text_of_pieces (operand_pieces operand)) operand
+operand_read (Root name) h s = (append-nil name, h)
+operand_read (Word place) h s = (decimal place, ap (λ (text : List ℕ). 64 ∷ text) (append-nil (decimal place)), IsNumber-decimal place s.0)
 
-operand_plain : (operand : Operand) → IsWritableOperand operand → IsPlain (text_of_pieces (operand_pieces operand))
-operand_plain (Root name) h = rw (append-nil name) (IsPlain-ident name h)
-operand_plain (Word place) h = absurd h
+operand_plain : (operand : Operand) → IsWritableOperand operand → IsSpelled (operand_pieces operand) → IsPlain (text_of_pieces (operand_pieces operand))
+operand_plain (Root name) h s = rw (append-nil name) (IsPlain-ident name h)
+operand_plain (Word place) h s = (refl, refl, rw (append-nil (decimal place)) (IsPlain-decimal place s.0))
 
 input_read : (value : Input) → IsWritableInput value → IsSpelled (input_pieces value) → IsInput (text_of_pieces (input_pieces value)) value
-input_read (From operand) h s = operand_read operand h
+input_read (From operand) h s = operand_read operand h s
 input_read Nil h s = refl
 input_read (Small number) h s = (decimal number, ap (λ (text : List ℕ). 61 ∷ text) (append-nil (decimal number)), IsNumber-decimal number s.0, h)
 
 input_plain : (value : Input) → IsWritableInput value → IsSpelled (input_pieces value) → IsPlain (text_of_pieces (input_pieces value))
-input_plain (From operand) h s = operand_plain operand h
+input_plain (From operand) h s = operand_plain operand h s
 input_plain Nil h s = plain_text (codes "nil") refl
 input_plain (Small number) h s = (refl, refl, rw (append-nil (decimal number)) (IsPlain-decimal number s.0))
 
@@ -140,10 +149,14 @@ word_off word {rest} {words} h cut = record {
   no_cr = without_cr-cut word rest cut.no_cr;
 }
 
-operand_off : (operand : Operand) (more : List Piece) {words : List (List ℕ)} → IsWritableOperand operand → IsCut (text_of_pieces more) words → IsCut (text_of_pieces (operand_pieces operand ++ Say (codes " ") ∷ more)) (text_of_pieces (operand_pieces operand) ∷ words)
-operand_off operand more {words} h cut =
+operand_off : (operand : Operand) (more : List Piece) {words : List (List ℕ)} → IsWritableOperand operand → IsSpelled (operand_pieces operand) → IsCut (text_of_pieces more) words → IsCut (text_of_pieces (operand_pieces operand ++ Say (codes " ") ∷ more)) (text_of_pieces (operand_pieces operand) ∷ words)
+operand_off operand more {words} h s cut =
     let split = text_of_pieces_append (operand_pieces operand) (Say (codes " ") ∷ more) in
-    rw split (word_off (text_of_pieces (operand_pieces operand)) (operand_plain operand h) cut)
+    rw split (word_off (text_of_pieces (operand_pieces operand)) (operand_plain operand h s) cut)
+
+operand_front : (operand : Operand) (pieces : List Piece) → IsSpelled (operand_pieces operand ++ pieces) → IsSpelled (operand_pieces operand)
+operand_front (Root name) pieces s = (s.0, tt)
+operand_front (Word place) pieces s = (s.0, tt)
 
 -- what is left of the pieces when an operand's came off the front
 operand_spelled : (operand : Operand) (pieces : List Piece) → IsSpelled (operand_pieces operand ++ pieces) → IsSpelled pieces
@@ -161,22 +174,40 @@ spelling_is_read (Set root value) w s =
     let words : IsCut (command_text (Set root value)) (codes "set" ∷ root ∷ v ∷ []) =
     word_off (codes "set") (plain_text (codes "set") refl) (word_off root (IsPlain-ident root w.0) (last_word v (input_plain value w.1 s.1))) in
     (v, words_read words, w.0, input_read value w.1 s.1)
+spelling_is_read (DropRoot root) w s =
+    let words : IsCut (command_text (DropRoot root)) (codes "drop" ∷ root ∷ []) =
+    word_off (codes "drop") (plain_text (codes "drop") refl) (rw (append-nil root) (last_word root (IsPlain-ident root w))) in
+    (words_read words, w)
+spelling_is_read (Push value) w s =
+    let v = text_of_pieces (input_pieces value) in
+    let words : IsCut (command_text (Push value)) (codes "push" ∷ v ∷ []) =
+    word_off (codes "push") (plain_text (codes "push") refl) (last_word v (input_plain value w s)) in
+    (v, words_read words, input_read value w s)
+spelling_is_read (Raw word) w s =
+    let words : IsCut (command_text (Raw word)) (codes "raw" ∷ hex word ∷ []) =
+    word_off (codes "raw") (plain_text (codes "raw") refl) (rw (append-nil (hex word)) (last_word (hex word) (IsPlain-hex word))) in
+    (hex word, words_read words, IsHex-hex word w)
+spelling_is_read Pop w s = refl
 spelling_is_read (Store object index value) w s =
+    let o = operand_front object _ s in
     let t = operand_spelled object _ s in
     let a = text_of_pieces (operand_pieces object) in
     let v = text_of_pieces (input_pieces value) in
     let words : IsCut (command_text (Store object index value)) (codes "store" ∷ a ∷ decimal index ∷ v ∷ []) =
-    word_off (codes "store") (plain_text (codes "store") refl) (operand_off object _ w.0 (word_off (decimal index) (IsPlain-decimal index t.0) (last_word v (input_plain value w.2 t.1)))) in
-    (a, decimal index, v, words_read words, operand_read object w.0, IsNumber-decimal index t.0, input_read value w.2 t.1)
+    word_off (codes "store") (plain_text (codes "store") refl) (operand_off object _ w.0 o (word_off (decimal index) (IsPlain-decimal index t.0) (last_word v (input_plain value w.2 t.1)))) in
+    (a, decimal index, v, words_read words, operand_read object w.0 o, IsNumber-decimal index t.0, input_read value w.2 t.1)
 spelling_is_read (Load root object index) w s =
+    let o = operand_front object _ s.1 in
     let t = operand_spelled object _ s.1 in
     let a = text_of_pieces (operand_pieces object) in
     let words : IsCut (command_text (Load root object index)) (codes "load" ∷ root ∷ a ∷ decimal index ∷ []) =
-    word_off (codes "load") (plain_text (codes "load") refl) (word_off root (IsPlain-ident root w.0) (operand_off object _ w.1 (last_number index t.0))) in
-    (a, decimal index, words_read words, w.0, operand_read object w.1, IsNumber-decimal index t.0)
+    word_off (codes "load") (plain_text (codes "load") refl) (word_off root (IsPlain-ident root w.0) (operand_off object _ w.1 o (last_number index t.0))) in
+    (a, decimal index, words_read words, w.0, operand_read object w.1 o, IsNumber-decimal index t.0)
 spelling_is_read (Same left right) w s =
+    let o = operand_front left _ s in
+    let t = operand_spelled left _ s in
     let a = text_of_pieces (operand_pieces left) in
     let b = text_of_pieces (operand_pieces right) in
     let words : IsCut (command_text (Same left right)) (codes "same" ∷ a ∷ b ∷ []) =
-    word_off (codes "same") (plain_text (codes "same") refl) (operand_off left _ w.0 (last_word b (operand_plain right w.1))) in
-    (a, b, words_read words, operand_read left w.0, operand_read right w.1)
+    word_off (codes "same") (plain_text (codes "same") refl) (operand_off left _ w.0 o (last_word b (operand_plain right w.1 t))) in
+    (a, b, words_read words, operand_read left w.0 o, operand_read right w.1 t)

@@ -4,7 +4,7 @@ ghost use Rattle.arrayvec.specs.ArrayVec.{array_vec_len};
 ghost use Rattle.space_model.specs.CommandTexts.{operand_pieces, input_pieces, guard_text, style_text, command_pieces};
 ghost use Rattle.space_model.specs.Spelling.{text_of_pieces, IsSpelled};
 
-use crate::line::{Line, put, put_decimal};
+use crate::line::{Line, put, put_decimal, put_hex};
 use space_model::{Command, Guard, Input, Operand, Style};
 
 fn put_operand(line: &mut Line, operand: Operand)
@@ -86,6 +86,19 @@ pub fn put_command(line: &mut Line, command: Command)
             put(line, b" ");
             put_input(line, value);
         }
+        Command::DropRoot { root } => {
+            put(line, b"drop ");
+            put(line, root.bytes());
+        }
+        Command::Push { value } => {
+            put(line, b"push ");
+            put_input(line, value);
+        }
+        Command::Raw { word } => {
+            put(line, b"raw ");
+            put_hex(line, word);
+        }
+        Command::Pop => put(line, b"pop"),
         Command::Store {
             object,
             index,

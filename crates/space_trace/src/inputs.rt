@@ -7,12 +7,27 @@ ghost use Rattle.space_model.specs.Grammar.{IsOperand, IsInput};
 use crate::numbers::read_number;
 use space_model::{Ident, Input, Operand};
 
+// The place of the stack word that the word is.
+fn read_place(word: &[u8]) -> Option<u64>
+    ensures { MatchOption result ((place : ℕ) → IsOperand word.now (Operand.Word place) → ⊥) (λ place. IsOperand word.now (Operand.Word place)) }
+{
+    let (first, digits) = word.split_first()?;
+    if *first != b'@' {
+        return None;
+    }
+    let place = read_number(digits)?;
+    Some(place)
+}
+
 /// The operand that the word is.
 pub fn read_operand(word: &[u8]) -> Option<Operand>
     ensures { MatchOption result ((operand : TheOperand) → IsOperand word.now operand → ⊥) (λ operand. IsOperand word.now operand) }
 {
-    match Ident::read(word) {
-        Some(name) => Some(Operand::Root(name)),
+    if let Some(name) = Ident::read(word) {
+        return Some(Operand::Root(name));
+    }
+    match read_place(word) {
+        Some(place) => Some(Operand::Word(place)),
         None => None,
     }
 }

@@ -2,7 +2,7 @@
 ghost use Rattle.std.specs.Prelude.{◌≡◌, ◌≤◌, ◌<◌, ◌+◌, ◌++◌, [], ◌∷◌, length};
 ghost use Rattle.arrayvec.specs.ArrayVec.{array_vec_len};
 ghost use Rattle.space_model.specs.Spelling.{text_of_pieces, IsSpelled};
-ghost use Rattle.space_model.specs.Texts.{kind_text, event_pieces, value_pieces, refusal_text, truth_text, reply_pieces};
+ghost use Rattle.space_model.specs.Texts.{kind_text, event_pieces, value_pieces, refusal_text, truth_text, named_pieces, reply_pieces};
 
 use crate::line::{Line, put, put_decimal, put_hex};
 use space_model::{Event, Kind, Refusal, Reply, Value};
@@ -71,6 +71,21 @@ fn refusal_bytes(why: Refusal) -> &'static [u8]
     }
 }
 
+fn put_named(line: &mut Line, names: Option<u64>)
+    requires { array_vec_len line.old ≤ 100 }
+    ensures items { line.new.items ≡ line.old.items ++ text_of_pieces (named_pieces names) }
+    ensures len { array_vec_len line.new ≤ array_vec_len line.old + 41 }
+    ensures spelled { IsSpelled (named_pieces names) }
+{
+    match names {
+        None => put(line, b"-"),
+        Some(name) => {
+            put(line, b"#");
+            put_decimal(line, name);
+        }
+    }
+}
+
 fn truth_bytes(truth: bool) -> &'static [u8]
     ensures text { result.now ≡ truth_text truth }
     ensures len { length result.now ≤ 40 }
@@ -95,6 +110,12 @@ pub fn put_reply(line: &mut Line, reply: Reply)
         Reply::Full => put(line, b"full"),
         Reply::NoMemory => put(line, b"no memory"),
         Reply::Done => put(line, b"ok"),
+        Reply::Pushed { word, names } => {
+            put(line, b"word ");
+            put_hex(line, word);
+            put(line, b" names ");
+            put_named(line, names);
+        }
         Reply::Read { value } => put_value(line, value),
         Reply::Truth { yes } => put(line, truth_bytes(yes)),
         Reply::Refused { why } => put(line, refusal_bytes(why)),

@@ -7,6 +7,8 @@ use crate::forms::read_words;
 use crate::words::next_word;
 use space_model::Command;
 
+const CR: u8 = b'\r';
+
 /// The line isn't in the grammar.
 #[derive(Clone, Copy, Debug, PartialEq, Eq)]
 pub struct Malformed;
@@ -16,7 +18,7 @@ fn drop_cr(line: &[u8]) -> &[u8]
     ensures { result.now ≡ without_cr line.now }
 {
     if let Some((last, rest)) = line.split_last() {
-        if *last == b'\r' {
+        if *last == CR {
             return rest;
         }
     }

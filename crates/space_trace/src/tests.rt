@@ -6,7 +6,7 @@ use std::alloc::{AllocError as NoMemory, Global};
 use std::test::Fail;
 
 // The line, and how its command is spelled.
-const FORMS: [(&[u8], &[u8]); 12] = [
+const FORMS: [(&[u8], &[u8]); 23] = [
     (b"new a 3 P M", b"new a 3 P M\n"),
     (b"new a 79 P M", b"new a 79 P M\n"),
     (
@@ -26,6 +26,20 @@ const FORMS: [(&[u8], &[u8]); 12] = [
         b"store a 18446744073709551615 nil\n",
     ),
     (b"load a b 10", b"load a b 10\n"),
+    (b"load a @007 1", b"load a @7 1\n"),
+    (b"set a @0", b"set a @0\n"),
+    (
+        b"same @0 @18446744073709551615",
+        b"same @0 @18446744073709551615\n",
+    ),
+    (b"drop a", b"drop a\n"),
+    (b"push nil", b"push nil\n"),
+    (b"push @1\r", b"push @1\n"),
+    (b"push =5", b"push =5\n"),
+    (b"raw 0x0", b"raw 0x0\n"),
+    (b"raw 0x00ff", b"raw 0xff\n"),
+    (b"raw 0xfedcba9876543210", b"raw 0xfedcba9876543210\n"),
+    (b"pop", b"pop\n"),
     (b"same a b", b"same a b\n"),
     (b"same a b\r", b"same a b\n"),
 ];
@@ -33,7 +47,7 @@ const FORMS: [(&[u8], &[u8]); 12] = [
 // Lines without a command.
 const BLANK: [&[u8]; 5] = [b"", b"\r", b";", b"; a comment", b";same a b\r"];
 
-const MALFORMED: [&[u8]; 26] = [
+const MALFORMED: [&[u8]; 41] = [
     b" ",
     b" ; a comment",
     b"\r\r",
@@ -45,7 +59,22 @@ const MALFORMED: [&[u8]; 26] = [
     b"same a\r b",
     b"same a",
     b"same a b c",
-    b"same @0 b",
+    b"same @ b",
+    b"same @18446744073709551616 b",
+    b"same @x b",
+    b"set @0 a",
+    b"drop @0",
+    b"drop",
+    b"push",
+    b"push nil nil",
+    b"raw 0x",
+    b"raw 0xFF",
+    b"raw 00",
+    b"raw 0x00000000000000000",
+    b"raw 5",
+    b"raw 0xg",
+    b"pop a",
+    b"pop ",
     b"Same a b",
     b"new a 3 U M",
     b"new a 3 P K",
@@ -87,7 +116,7 @@ const EVENTS: [(Event, &[u8]); 4] = [
     ),
 ];
 
-const REPLIES: [(Reply, &[u8]); 16] = [
+const REPLIES: [(Reply, &[u8]); 18] = [
     (
         Reply::Made {
             name: 1,
@@ -112,6 +141,20 @@ const REPLIES: [(Reply, &[u8]); 16] = [
     (Reply::Full, b"full\n"),
     (Reply::NoMemory, b"no memory\n"),
     (Reply::Done, b"ok\n"),
+    (
+        Reply::Pushed {
+            word: 65576,
+            names: Some(12),
+        },
+        b"word 0x10028 names #12\n",
+    ),
+    (
+        Reply::Pushed {
+            word: 0,
+            names: None,
+        },
+        b"word 0x0 names -\n",
+    ),
     (Reply::Read { value: Value::Nil }, b"nil\n"),
     (
         Reply::Read {

@@ -28,6 +28,17 @@ pub fn next_word<'a>(rest: Option<&'a [u8]>) -> Option<(&'a [u8], Option<&'a [u8
     }
 }
 
+/// The word, where exactly one is left.
+pub fn one_word<'a>(rest: Option<&'a [u8]>) -> Option<&'a [u8]>
+    ensures { MatchOption result ((a : List ℕ) → words_in rest.entry ≡ a ∷ [] → ⊥) (λ w. words_in rest.entry ≡ w.now ∷ []) }
+{
+    let (first, rest) = next_word(rest)?;
+    if next_word(rest).is_some() {
+        return None;
+    }
+    Some(first)
+}
+
 /// The words, where exactly two are left.
 pub fn two_words<'a>(rest: Option<&'a [u8]>) -> Option<(&'a [u8], &'a [u8])>
     ensures { MatchOption result ((a b : List ℕ) → words_in rest.entry ≡ a ∷ b ∷ [] → ⊥) (λ w. words_in rest.entry ≡ w.0.now ∷ w.1.now ∷ []) }

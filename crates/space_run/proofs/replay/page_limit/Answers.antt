@@ -1,6 +1,5 @@
-use Rattle.std.proofs.Common.{◌≡◌, ◌≤◌, length, IsTrue, arith, rules, Some}
-use Rattle.std.specs.Prelude.{slice_get, codes}
-use Rattle.space_run.proofs.WordsLemmas.{texts_of, word_found, replay_alone, replay_pages}
+use Rattle.std.proofs.Common.{◌≡◌, length, IsTrue, arith, rules}
+use Rattle.space_run.proofs.WordsLemmas.{word_found, replay_alone, replay_pages}
 use Rattle.space_run.proofs.replay.page_limit.Goals as goal
 
 pub returns-then-len-eq1 : goal.returns-then-len-eq1

@@ -1,12 +1,15 @@
-use Rattle.std.proofs.Common.{◌≡◌, ◌-◌, ◌^◌, ◌≤◌}
+use Rattle.std.proofs.Common.{◌≡◌, ◌-◌, ◌*◌, ◌^◌, ◌≤◌, false}
 use Rattle.space_run.specs.Progress.{HasReplayed}
 use Rattle.space_run.proofs.replay.replay.Given as goal
 
 abbrev pub invariant-each_line : goal.invariant-each_line
 invariant-each_line g l = record {
-  done : HasReplayed l.fn.space.limit (g.S.Source.rest l.fn.source) (g.S.Source.rest l.source) (g.K.Sink.written l.fn.sink) (g.K.Sink.written l.sink) l.lines l.space;
+  done : HasReplayed l.fn.space.parts.limit (g.S.Source.rest l.fn.source) (g.S.Source.rest l.source) (g.K.Sink.written l.fn.sink) (g.K.Sink.written l.sink) l.lines l.space;
   counted : l.lines.number ≤ 2 ^ 32;
   numbered : l.number ≡ l.lines.number;
+  able : l.space.is_spent ≡ false;
+  turns : l.space.turns ≤ l.lines.number;
+  steps : l.steps ≤ 2 ^ 26 * l.lines.number;
   read_faults : g.S.Source.faults l.fn.source ≤ g.S.Source.faults l.source;
   write_faults : g.K.Sink.faults l.fn.sink ≤ g.K.Sink.faults l.sink;
 }

@@ -1,0 +1,9 @@
+mod RootWords
+mod Reading
+mod ObjectLemmas
+mod Addresses
+mod FillLemmas
+mod Placing
+mod Reserving
+mod Answering
+mod Stepping

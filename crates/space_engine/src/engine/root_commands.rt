@@ -1,0 +1,76 @@
+// The commands that write roots.
+ghost use Rattle.std.specs.Prelude.{◌≡◌, None, OnOk, OnErr, is_some};
+ghost use Rattle.space_model.specs.declared.command.Command.TheVariants.{Set, DropRoot, Load};
+ghost use Rattle.space_model.specs.Sound.{IsSmallInput};
+ghost use Rattle.space_model.specs.State.{State};
+ghost use Rattle.space_roots.specs.WordRoots.{root_word};
+ghost use Rattle.space_engine.specs.Stands.{Holds};
+ghost use Rattle.space_engine.specs.Steps.{Answers};
+ghost use Rattle.space_engine.specs.Views.{with_root_written, with_root_dropped};
+
+use super::Engine;
+use space_model::{Ident, Input, Operand, Refusal, Reply};
+use std::alloc::AllocError as NoMemory;
+
+impl Engine {
+    // Writes a root; a new one may want memory. An `Err` changes nothing.
+    fn put_root(&mut self, root: &Ident, word: u64) -> Result<(), NoMemory>
+        ensures ok { OnOk result (self.new ≡ with_root_written self.old root.now word) }
+        ensures err { OnErr result (self.new ≡ self.old) }
+        ensures absent { OnErr result (root_word self.old.roots root.now ≡ None) }
+    {
+        self.roots.set(*root, word)
+    }
+
+    // Takes a root away, where there is one.
+    fn take_root(&mut self, root: &Ident) -> bool
+        ensures answer { result ≡ is_some (root_word self.old.roots root.now) }
+        ensures rest { self.new ≡ with_root_dropped self.old root.now }
+    {
+        self.roots.drop_root(*root)
+    }
+
+    /// The root holds the value.
+    pub fn set(&mut self, root: &Ident, value: &Input) -> Reply
+        requires { IsSmallInput value.now }
+        ensures { (s : State) → Holds self.old s → Answers s self.new (Set root.now value.now) result }
+    {
+        let found = match self.input_of(value) {
+            Ok(found) => found,
+            Err(why) => return Reply::Refused { why },
+        };
+        let word = self.word_of(found);
+        match self.put_root(root, word) {
+            Ok(()) => Reply::Done,
+            Err(_) => Reply::NoMemory,
+        }
+    }
+
+    /// The root is taken away, where there is one.
+    pub fn drop_root(&mut self, root: &Ident) -> Reply
+        ensures { (s : State) → Holds self.old s → Answers s self.new (DropRoot root.now) result }
+    {
+        if self.take_root(root) {
+            Reply::Done
+        } else {
+            Reply::Refused {
+                why: Refusal::NoRoot,
+            }
+        }
+    }
+
+    /// The root holds the value of a field.
+    pub fn load(&mut self, root: &Ident, object: &Operand, index: u64) -> Reply
+        ensures { (s : State) → Holds self.old s → Answers s self.new (Load root.now object.now index) result }
+    {
+        let value = match self.read(object, index) {
+            Ok(value) => value,
+            Err(why) => return Reply::Refused { why },
+        };
+        let word = self.word_of(value);
+        match self.put_root(root, word) {
+            Ok(()) => Reply::Read { value },
+            Err(_) => Reply::NoMemory,
+        }
+    }
+}

@@ -1,0 +1,14 @@
+//! The space: it answers commands, each by lawful outputs.
+#![tactic(auto)]
+
+mod counts;
+mod engine;
+mod objects;
+mod operands;
+mod pages;
+mod space;
+#[cfg(test)]
+mod tests;
+
+pub use counts::Counts;
+pub use space::{Space, StepFault};

@@ -1,0 +1,105 @@
+// The space, as its users see it.
+ghost use Rattle.std.specs.Prelude.{◌≡◌, ◌≤◌, ◌<◌, ◌+◌, ◌^◌, false, IfOk, OnErr, is_err};
+ghost use Rattle.std.specs.Io.KnownBytes.{Appends};
+ghost use Rattle.space_io.specs.Causes.{HasCause};
+ghost use Rattle.space_io.specs.Sinks.{AppendsPrefix};
+ghost use Rattle.space_model.specs.Sound.{IsGivenSmall};
+ghost use Rattle.space_model.specs.State.{State, opening};
+ghost use Rattle.space_model.specs.Texts.{text_of};
+ghost use Rattle.space_engine.specs.Counting.{counts_of};
+ghost use Rattle.space_engine.specs.Stands.{Stands};
+ghost use Rattle.space_engine.specs.Steps.{Steps as LawfulSteps};
+ghost use Rattle.space_engine.specs.Views.{empty_space};
+
+use crate::counts::{Counts, counts_of_reply};
+use crate::engine::Engine;
+use space_io::Sink;
+use space_model::{Command, Ledger, Phase, Steps};
+use space_trace::write_reply;
+use std::alloc::{AllocError as NoMemory, Global};
+use std::marker::Model;
+
+/// Why a step ended before its outputs were written.
+#[derive(Clone, Copy, Debug, PartialEq, Eq)]
+pub enum StepFault {
+    /// A write failed.
+    WriteFault,
+}
+
+/// An object space, which answers commands.
+#[derive(Drop)]
+pub struct Space {
+    engine: Engine,
+    turns: u64,
+    is_spent: bool,
+}
+
+impl Model for Space {
+    ghost use Rattle.space_engine.specs.Views.{SpaceView};
+
+    ghost Value = { SpaceView };
+
+    ghost view = { λ space. record { parts = space.engine; turns = space.turns; is_spent = space.is_spent } };
+}
+
+impl Space {
+    /// The space before the first command, with so many pages at most.
+    pub fn new(alloc: Global, limit: u32) -> Result<Space, NoMemory>
+        requires { (1 ≤ limit) × (limit ≤ 4096) }
+        ensures view { IfOk result (λ space. space ≡ empty_space limit) }
+        ensures stands { IfOk result (λ space. Stands space (opening limit)) }
+    {
+        let engine = Engine::new(alloc, limit)?;
+        Ok(Space {
+            engine,
+            turns: 0,
+            is_spent: false,
+        })
+    }
+
+    /// What the collector is at.
+    pub fn phase(&self) -> Phase
+        ensures { (s : State) → Stands self.now s → result ≡ s.collector.phase }
+    {
+        Phase::Idle
+    }
+
+    /// The number of commands so far.
+    pub fn turns(&self) -> u64
+        ensures { result ≡ self.now.turns }
+    {
+        self.turns
+    }
+
+    /// Answers a command, and writes its lines. After an `Err` a prefix of them was written, and the space is spent.
+    pub fn step<K: Sink, L: Ledger>(
+        &mut self,
+        command: &Command,
+        sink: &mut K,
+        steps: &mut Steps<L>,
+    ) -> Result<Counts, StepFault>
+        requires able { self.old.is_spent ≡ false }
+        requires given { IsGivenSmall command.now }
+        requires turns { self.old.turns < 2 ^ 34 }
+        requires steps { steps.old < 2 ^ 62 }
+
+        // The outputs are lawful, from each state that the space stands for, and it stands for a state after them. They
+        // were written, and the counts are theirs.
+        ensures done { IfOk result (λ counts. LawfulSteps self.old self.new command.now (λ outputs. (counts ≡ counts_of outputs) × Appends (K.written sink.old) (K.written sink.new) (text_of outputs))) }
+        ensures fault { OnErr result (LawfulSteps self.old self.new command.now (λ outputs. AppendsPrefix (K.written sink.old) (K.written sink.new) (text_of outputs))) }
+        ensures cause { HasCause (K.faults sink.old) (K.faults sink.new) result }
+        ensures spent { self.new.is_spent ≡ is_err result }
+        ensures turns { self.new.turns ≡ self.old.turns + 1 }
+        ensures steps { (steps.old ≤ steps.new) × (steps.new < steps.old + 2 ^ 26) }
+    {
+        self.turns += 1;
+        let reply = self.engine.answer(command);
+        match write_reply(&reply, sink) {
+            Ok(()) => Ok(counts_of_reply(&reply)),
+            Err(_) => {
+                self.is_spent = true;
+                Err(StepFault::WriteFault)
+            }
+        }
+    }
+}
