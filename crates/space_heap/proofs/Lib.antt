@@ -13,5 +13,6 @@ mod Births
 mod Placed
 pub mod NewPages
 pub mod NewPageLaws
+pub mod NewPageSlots
 mod FirstSlots
 mod NextObjects
