@@ -1,9 +1,14 @@
 mod RootWords
+mod HeapReads
 mod Reading
-mod ObjectLemmas
+mod FieldWords
 mod Addresses
-mod FillLemmas
+mod Pages
+mod FreshPages
 mod Placing
+mod BirthPlaces
+mod Storing
+mod Openings
 mod Reserving
 mod Answering
 mod Stepping

@@ -1,35 +1,32 @@
 -- What words and operands stand for, in the states that an engine holds.
-use Rattle.std.proofs.Common.{◌≡◌, ℕ, ◌+◌, ◌-◌, ◌<◌, ◌≤◌, ◌==◌, ◌%◌, ◌/◌, ◌^◌, ◌&&◌, nat_lt, List, length, get_or, nat_eq, true, false, refl, ap, sym, ◌∙◌, arith, Option, None, Some, Result, Ok, Err, ⊎_elim}
-use Rattle.std.specs.Prelude.{slice_get, position, reverse, is_some}
-use Rattle.std.specs.List.{list_any}
+use Rattle.std.proofs.Common.{◌≡◌, ℕ, ◌+◌, ◌*◌, ◌<◌, ◌==◌, ◌%◌, ◌/◌, ◌^◌, ◌&&◌, nat_lt, List, [], ◌∷◌, nat_eq, true, false, refl, ap, sym, ◌∙◌, arith, Option, None, Some, Result, Ok, Err, ⊎_elim}
+use Rattle.std.specs.Prelude.{slice_get, reverse, is_some}
 use Rattle.std.specs.Option.{ok_or, option_map, unwrap_or}
+use Rattle.std.specs.Set.{is_member}
 use Rattle.std.specs.Ordering.{nat_cmp}
 use Rattle.std.specs.FinMap.{FinMap, get}
-use Rattle.std.proofs.lemmas.Bool.{eq-eqb, eqb-true, ne_eqb, true≢false, cases_Bool, and_parts}
+use Rattle.std.proofs.lemmas.Bool.{eq-eqb, eqb-true, ne_eqb, or_left, true≢false, cases_Bool, and_parts}
 use Rattle.std.proofs.lemmas.Bool.Decides.{nat_tests}
-use Rattle.std.proofs.lemmas.List.Quantifiers.{position-Some}
-use Rattle.std.proofs.lemmas.List.Folds.{list_any_at}
-use Rattle.std.proofs.lemmas.Option.{slice_get-get_or, slice_get_cases}
 use Rattle.space_model.specs.declared.command.Operand.{Operand}
 use Rattle.space_model.specs.declared.command.Operand.TheVariants.{Root as RootOperand, Word}
 use Rattle.space_model.specs.declared.reply.Refusal.{Refusal}
 use Rattle.space_model.specs.declared.reply.Refusal.TheVariants.{NoRoot, NoWord, NotObject}
 use Rattle.space_model.specs.declared.value.Value.{Value}
-use Rattle.space_model.specs.declared.value.Value.TheVariants.{Small, Name}
+use Rattle.space_model.specs.declared.value.Value.TheVariants.{Nil, Small, Name}
 use Rattle.space_model.specs.Operands.{named_by, value_word, word_value, word_value_in, operand_value}
+use Rattle.space_model.specs.Reached.{names_at}
 use Rattle.space_model.specs.Roots.{root_value}
 use Rattle.space_model.specs.State.{State}
 use Rattle.space_model.specs.Words.{IsSmallWord}
 use Rattle.space_model.proofs.StackWords.{named_by-place, named_by-none, word_value-back, word_value-small}
+use Rattle.space_model.proofs.ReachedLaws.{member-names_at}
 use Rattle.space_model.proofs.ValuesKept.{present_kept, small_kept}
+use Rattle.space_heap.specs.Objects.{is_object, object_of, resolved}
 use Rattle.space_roots.specs.WordRoots.{root_word}
 use Rattle.space_engine.specs.Stands.{Holds}
 use Rattle.space_engine.specs.Views.{View}
-use Rattle.space_engine.specs.Words.{operand_word}
+use Rattle.space_engine.specs.Words.{operand_word, word_result}
 use Rattle.space_engine.proofs.RootWords.{root_word-word_roots}
-
-not_there : (word : ℕ) (places : List ℕ) (k : ℕ) → list_any (nat_eq word) places ≡ false → k < length places → word ≡ get_or places k 0 → ⊥
-not_there word places k none lt e = true≢false (sym (list_any_at (nat_eq word) places k 0 lt (eq-eqb word (get_or places k 0) e)) ∙ none)
 
 none_some : {X : Type 0} (x : X) → ◌≡◌ {A = Option X} None (Some x) → ⊥
 none_some x e = cc
@@ -47,45 +44,12 @@ ok_err : (a : ℕ) (why : Refusal) → ◌≡◌ {A = Result ℕ Refusal} (Ok a)
 ok_err a why e = cc
 
 module _ (v : View) (s : State) (h : Holds v s) where
-  -- the name that a word names is the index of the word, and 1
-  pub name_found : (word index : ℕ) → position (nat_eq word) v.places ≡ Some index → named_by s.heap.place word ≡ Some (index + 1)
-  name_found word index e =
-      let found = position-Some (nat_eq word) v.places index 0 e in
-      let same : word ≡ get_or v.places index 0 = eqb-true word (get_or v.places index 0) found.1 in
-      named_by-place s.graph s.heap.pages s.heap.place (index + 1) word h.sound.layout.placed (h.represents.place.has index found.0 ∙ ap Some (sym same))
+  -- the name that a word names is the name of the object at this address
+  pub name_found : (word : ℕ) → is_object v.heap word ≡ true → named_by s.heap.place word ≡ Some (object_of v.heap word).name
+  name_found word is = named_by-place s.graph s.heap.pages s.heap.place (object_of v.heap word).name word h.sound.layout.placed (h.represents.objects.only word is)
 
-  pub no_name : (word : ℕ) → list_any (nat_eq word) v.places ≡ false → named_by s.heap.place word ≡ None
-  no_name word none = named_by-none s.heap.place word (λ name at.
-      let k = h.represents.place.only name word at in
-      not_there word v.places k.0 none k.1 k.2)
-
-  -- the place of a name
-  pub no_place_of_zero : get s.heap.place 0 ≡ None
-  no_place_of_zero = zero_cases (get s.heap.place 0) refl
-    where
-      zero_cases : (o : Option ℕ) → get s.heap.place 0 ≡ o → o ≡ None
-      zero_cases None e = refl
-      zero_cases (Some a) e = absurd (let b = h.sound.layout.placed.born 0 a e in omega (arith, b.0))
-
-  no_place_past : (name : ℕ) → 0 < name → length v.places ≤ name - 1 → get s.heap.place name ≡ None
-  no_place_past name some past = past_cases (get s.heap.place name) refl
-    where
-      past_cases : (o : Option ℕ) → get s.heap.place name ≡ o → o ≡ None
-      past_cases None e = refl
-      past_cases (Some a) e = absurd (
-          let b = h.sound.layout.placed.born name a e in
-          let many : length s.graph ≡ length v.items = ap length h.represents.graph in
-          let count = h.represents.count in
-          omega (arith, b.1))
-
-  pub place_found : (name : ℕ) → 0 < name → unwrap_or (slice_get v.places (name - 1)) 0 ≡ unwrap_or (get s.heap.place name) 0
-  place_found name some = ⊎_elim
-      (λ here.
-      let at = h.represents.place.has (name - 1) here.1 in
-      let back : name - 1 + 1 ≡ name = omega (arith, some) in
-      ap (λ (o : Option ℕ). unwrap_or o 0) (slice_get-get_or v.places (name - 1) 0 here.1 ∙ sym at ∙ ap (get s.heap.place) back))
-      (λ past. ap (λ (o : Option ℕ). unwrap_or o 0) (past.1 ∙ sym (no_place_past name some past.0)))
-      (slice_get_cases v.places (name - 1)).1
+  pub no_name : (word : ℕ) → is_object v.heap word ≡ false → named_by s.heap.place word ≡ None
+  no_name word none = named_by-none s.heap.place word (λ name at. true≢false (sym (h.represents.objects.stands name word at) ∙ none))
 
   -- the word of a root is that of its value
   root_at : (name : List ℕ) (found : Option Value) → root_value s.roots name ≡ found → root_word v.roots name ≡ option_map (value_word s.heap.place) found
@@ -118,12 +82,12 @@ module _ (v : View) (s : State) (h : Holds v s) where
           sym (ap (word_value s.heap.place) (sym same) ∙ word_value-back s value h.sound ((present_kept s h.sound).root name value f) ((small_kept s h.sound).root name value f))
 
   -- an operand without a word
-  pub operand_lost : (operand : Operand) (why : Refusal) → operand_word v.roots v.stack operand ≡ Err why → operand_value s operand ≡ Err why
+  pub operand_lost : (operand : Operand) (why : Refusal) → operand_word v operand ≡ Err why → operand_value s operand ≡ Err why
   operand_lost (RootOperand name) why e = root_lost (root_word v.roots name) refl e
     where
-      root_lost : (o : Option ℕ) → root_word v.roots name ≡ o → ◌≡◌ {A = Result ℕ Refusal} (ok_or o NoRoot) (Err why) → operand_value s (RootOperand name) ≡ Err why
+      root_lost : (o : Option ℕ) → root_word v.roots name ≡ o → ◌≡◌ {A = Result ℕ Refusal} (ok_or (option_map (resolved v.heap) o) NoRoot) (Err why) → operand_value s (RootOperand name) ≡ Err why
       root_lost None f e = rw (root_absent name f) (ap Err (err_same NoRoot why e))
-      root_lost (Some word) f e = absurd (ok_err word why e)
+      root_lost (Some word) f e = absurd (ok_err (resolved v.heap word) why e)
   operand_lost (Word k) why e = rw h.represents.stack (word_lost (slice_get (reverse v.stack) k) e)
     where
       word_lost : (o : Option ℕ) → ◌≡◌ {A = Result ℕ Refusal} (ok_or o NoWord) (Err why) → word_value_in s.heap.place o ≡ Err why
@@ -131,14 +95,15 @@ module _ (v : View) (s : State) (h : Holds v s) where
       word_lost (Some word) e = absurd (ok_err word why e)
 
   -- an operand has the value of its word
-  pub operand_found : (operand : Operand) (word : ℕ) (found : Option Value) → operand_word v.roots v.stack operand ≡ Ok word → found ≡ word_value s.heap.place word → operand_value s operand ≡ ok_or found NotObject
+  pub operand_found : (operand : Operand) (word : ℕ) (found : Option Value) → operand_word v operand ≡ Ok word → found ≡ word_value s.heap.place word → operand_value s operand ≡ ok_or found NotObject
   operand_found (RootOperand name) word found e f = root_gives (root_word v.roots name) refl e
     where
-      root_gives : (o : Option ℕ) → root_word v.roots name ≡ o → ◌≡◌ {A = Result ℕ Refusal} (ok_or o NoRoot) (Ok word) → operand_value s (RootOperand name) ≡ ok_or found NotObject
+      root_gives : (o : Option ℕ) → root_word v.roots name ≡ o → ◌≡◌ {A = Result ℕ Refusal} (ok_or (option_map (resolved v.heap) o) NoRoot) (Ok word) → operand_value s (RootOperand name) ≡ ok_or found NotObject
       root_gives None r e = absurd (ok_err word NoRoot (sym e))
       root_gives (Some w) r e =
           let has = root_there name (ap is_some r) in
-          let value : Some has.0 ≡ found = sym has.1 ∙ root_found name word (r ∙ ap Some (ok_same w word e)) ∙ sym f in
+          let same : w ≡ word = sym (h.represents.untouched.still w) ∙ ok_same (resolved v.heap w) word e in
+          let value : Some has.0 ≡ found = sym has.1 ∙ root_found name word (r ∙ ap Some same) ∙ sym f in
           rw has.1 (ap (λ (o : Option Value). ok_or o NotObject) value)
   operand_found (Word k) word found e f = rw (h.represents.stack, f) (word_gives (slice_get (reverse v.stack) k) e)
     where
@@ -158,3 +123,51 @@ word_value-named place word some none = rw (ne_eqb word 0 some, no_small word no
 
 pub word_value-of_small : (place : FinMap nat_cmp ℕ) (word number : ℕ) → IsSmallWord word number → word_value place word ≡ Some (Small number)
 word_value-of_small place word number small = ap (word_value place) small.is ∙ word_value-small place number small.small
+
+-- the word of the value of a word
+
+some_same_value : (a b : Value) → ◌≡◌ {A = Option Value} (Some a) (Some b) → a ≡ b
+some_same_value a b e = cc
+
+first_member : (names : List ℕ) (name : ℕ) → slice_get names 0 ≡ Some name → is_member nat_eq names name ≡ true
+first_member [] name e = absurd (cc)
+first_member (n ∷ names) name e = or_left _ _ (eq-eqb name n (sym (let f : n ≡ name = cc in f)))
+
+pub named_by-back : (place : FinMap nat_cmp ℕ) (word name : ℕ) → named_by place word ≡ Some name → get place name ≡ Some word
+named_by-back place word name e = (member-names_at place word name).0 (first_member (names_at place word) name e)
+
+named_word : (place : FinMap nat_cmp ℕ) (word : ℕ) (found : Option ℕ) (value : Value) → named_by place word ≡ found → option_map Name found ≡ Some value → value_word place value ≡ word
+named_word place word None value e v = absurd (none_some value v)
+named_word place word (Some name) value e v =
+    ap (value_word place) (sym (some_same_value (Name name) value v)) ∙ ap (λ (o : Option ℕ). unwrap_or o 0) (named_by-back place word name e)
+
+odd_word : (word : ℕ) → (nat_lt word (2 ^ 63) && (word % 2 == 1)) ≡ true → 2 * (word / 2) + 1 ≡ word
+odd_word word t = let p = and_parts _ _ t in let odd : word % 2 ≡ 1 = eqb-true _ _ p.1 in omega (arith, odd)
+
+pub word_value-forth : (place : FinMap nat_cmp ℕ) (word : ℕ) (value : Value) → word_value place word ≡ Some value → value_word place value ≡ word
+word_value-forth place word value e = ⊎_elim
+    (λ (is_nil : (word == 0) ≡ true).
+    let is : word_value place word ≡ Some Nil = rw is_nil refl in
+    ap (value_word place) (sym (some_same_value Nil value (sym is ∙ e))) ∙ sym (eqb-true word 0 is_nil))
+    (λ (some : (word == 0) ≡ false). ⊎_elim
+    (λ (is_small : (nat_lt word (2 ^ 63) && (word % 2 == 1)) ≡ true).
+    let is : word_value place word ≡ Some (Small (word / 2)) = rw (some, is_small) refl in
+    ap (value_word place) (sym (some_same_value (Small (word / 2)) value (sym is ∙ e))) ∙ odd_word word is_small)
+    (λ (large : (nat_lt word (2 ^ 63) && (word % 2 == 1)) ≡ false).
+    let is : word_value place word ≡ option_map Name (named_by place word) = rw (some, large) refl in
+    named_word place word (named_by place word) value refl (sym is ∙ e))
+    (cases_Bool (nat_lt word (2 ^ 63) && (word % 2 == 1))))
+    (cases_Bool (word == 0))
+
+module _ (v : View) (s : State) (h : Holds v s) where
+  -- the word of an operand that has a value is the word of the value
+  pub word_found : (operand : Operand) (word : ℕ) (value : Value) → operand_word v operand ≡ Ok word → Some value ≡ word_value s.heap.place word → Ok word ≡ word_result s.heap.place (operand_value s operand)
+  word_found operand word value e f =
+      ap Ok (sym (word_value-forth s.heap.place word value (sym f)))
+      ∙ ap (word_result s.heap.place) (sym (operand_found v s h operand word (Some value) e f))
+
+  pub word_lost : (operand : Operand) (why : Refusal) → operand_word v operand ≡ Err why → Err why ≡ word_result s.heap.place (operand_value s operand)
+  word_lost operand why e = ap (word_result s.heap.place) (sym (operand_lost v s h operand why e))
+
+  pub word_strange : (operand : Operand) (word : ℕ) → operand_word v operand ≡ Ok word → None ≡ word_value s.heap.place word → Err NotObject ≡ word_result s.heap.place (operand_value s operand)
+  word_strange operand word e f = ap (word_result s.heap.place) (sym (operand_found v s h operand word None e f))

@@ -1,8 +1,9 @@
 -- Roots with the words of their values.
-use Rattle.std.proofs.Common.{◌≡◌, ℕ, List, [], ◌∷◌, true, nat_eq, refl, ap, Option, ⊎_elim}
+use Rattle.std.proofs.Common.{◌≡◌, ℕ, List, [], ◌∷◌, true, map, nat_eq, refl, ap, Option, ⊎_elim}
 use Rattle.std.specs.Option.{option_map, unwrap_or}
 use Rattle.std.specs.Ordering.{nat_cmp}
 use Rattle.std.specs.FinMap.{FinMap, get, insert, gets}
+use Rattle.std.specs.List.{flat_map}
 use Rattle.std.specs.Set.{is_member}
 use Rattle.std.specs.Str.{bytes_eq}
 use Rattle.std.proofs.Common.{rules}
@@ -59,4 +60,13 @@ module _ (place : FinMap nat_cmp ℕ) where
         rw (
           value_word-insert root.1 (λ n m. other n (member_left (names_of root.1) (root_names roots) n m)),
           word_roots-insert roots (λ n m. other n (member_right (names_of root.1) (root_names roots) n m)),
+        ) refl
+
+    -- and the words of fields
+    pub words-insert : (values : List Value) → ((n : ℕ) → is_member nat_eq (flat_map names_of values) n ≡ true → n ≡ fresh → ⊥) → map (value_word (insert place fresh address)) values ≡ map (value_word place) values
+    words-insert [] other = refl
+    words-insert (value ∷ values) other =
+        rw (
+          value_word-insert value (λ n m. other n (member_left (names_of value) (flat_map names_of values) n m)),
+          words-insert values (λ n m. other n (member_right (names_of value) (flat_map names_of values) n m)),
         ) refl

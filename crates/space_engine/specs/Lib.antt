@@ -1,7 +1,6 @@
-pub mod Objects
-pub mod Filling
 pub mod Views
 pub mod Inside
+pub mod Births
 pub mod Words
 pub mod Stands
 pub mod Counting

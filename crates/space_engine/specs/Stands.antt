@@ -1,54 +1,59 @@
 -- Which states a space stands for.
-use Rattle.std.specs.Prelude.{◌≡◌, ℕ, ◌+◌, ◌<◌, List, [], length, map, slice_get, slice_index, Some}
+use Rattle.std.specs.Prelude.{◌≡◌, ◌↔◌, ℕ, true, List, [], length, map, Some}
 use Rattle.std.specs.FinMap.{FinMap, get, empty}
 use Rattle.std.specs.Ordering.{nat_cmp}
 use Rattle.space_model.specs.declared.phase.Phase.TheVariants.{Idle}
-use Rattle.space_model.specs.Layout.{slot_address}
+use Rattle.space_model.specs.Graph.{Item, item_of}
+use Rattle.space_model.specs.Operands.{value_word}
+use Rattle.space_model.specs.Pages.{pool_at as pool_of_page}
+use Rattle.space_model.specs.Places.{IsFree}
 use Rattle.space_model.specs.Sound.{Sound}
 use Rattle.space_model.specs.State.{State}
-use Rattle.space_engine.specs.declared.pages.Page.{Page}
-use Rattle.space_engine.specs.Filling.{ArePages}
+use Rattle.space_heap.specs.Slots.{ObjectView}
+use Rattle.space_heap.specs.HeapView.{HeapView, pool_at}
+use Rattle.space_heap.specs.Objects.{is_object, object_of, resolved}
+use Rattle.space_heap.specs.FreeSlots.{IsFreeAt}
 use Rattle.space_engine.specs.Views.{View, SpaceView}
 use Rattle.space_engine.specs.Words.{word_roots}
 
--- the names stand at these places, in the order of their birth
-pub record StandsInOrder (place : FinMap nat_cmp ℕ) (places : List ℕ) : Type 0 where
-  pub has : (k : ℕ) → k < length places → get place (k + 1) ≡ Some (slice_index places k)
-  pub only : (name address : ℕ) → get place name ≡ Some address → (k : ℕ) × (k < length places) × (address ≡ slice_index places k)
+-- the object has this name, and the item's guard and style, and the words of its values
+pub record IsObjectOf (place : FinMap nat_cmp ℕ) (name : ℕ) (item : Item) (object : ObjectView) : Type 0 where
+  pub named : object.name ≡ name
+  pub guard : object.guard ≡ item.guard
+  pub style : object.style ≡ item.style
+  pub fields : object.fields ≡ map (value_word place) item.values
 
--- the address is a used slot of a page
-pub record IsUsedSlot (pages : List Page) (address : ℕ) : Type 0 where
-  pub index : ℕ
-  pub slot : ℕ
-  pub page : Page
-  pub here : slice_get pages index ≡ Some page
-  pub used : slot < page.used
-  pub is : address ≡ slot_address index page.pool slot
+-- the objects are the present names, each at its place
+pub record HasObjects (graph : List Item) (place : FinMap nat_cmp ℕ) (heap : HeapView) : Type 0 where
+  pub stands : (name address : ℕ) → get place name ≡ Some address → is_object heap address ≡ true
+  pub is : (name address : ℕ) → get place name ≡ Some address → IsObjectOf place name (item_of graph name) (object_of heap address)
+  pub only : (address : ℕ) → is_object heap address ≡ true → get place (object_of heap address).name ≡ Some address
 
--- the places are the used slots of the pages
-pub record AreUsed (places : List ℕ) (pages : List Page) : Type 0 where
-  pub stand : (k : ℕ) → k < length places → IsUsedSlot pages (slice_index places k)
-  pub all : (index slot : ℕ) (page : Page) → slice_get pages index ≡ Some page → slot < page.used → (k : ℕ) × (k < length places) × (slice_index places k ≡ slot_address index page.pool slot)
+-- the heap has the pages of the state, and the same addresses are free
+pub record HasPages (s : State) (heap : HeapView) : Type 0 where
+  pub count : length s.heap.pages ≡ length heap.pages
+  pub pools : (page : ℕ) → pool_of_page s.heap.pages page ≡ pool_at heap page
+  pub limit : s.heap.limit ≡ heap.limit
+  pub free : (pool address : ℕ) → IsFree s pool address ↔ IsFreeAt heap pool address
 
 -- what no command touches yet is as at the opening
-pub record IsUntouched (s : State) : Type 0 where
-  pub phase : s.collector.phase ≡ Idle
+pub record IsUntouched (s : State) (heap : HeapView) : Type 0 where
+  pub idle : s.collector.phase ≡ Idle
+  pub phase : heap.phase ≡ s.collector.phase
   pub corpses : s.heap.corpses ≡ empty
   pub left : s.heap.left ≡ empty
   pub unswept : s.heap.unswept ≡ []
+  -- no object was moved
+  pub still : (word : ℕ) → resolved heap word ≡ word
 
 -- the view has what the state has, and of each root the word of its value
 pub record Represents (v : View) (s : State) : Type 0 where
-  pub graph : s.graph ≡ v.items
+  pub objects : HasObjects s.graph s.heap.place v.heap
+  pub pages : HasPages s v.heap
+  pub born : v.heap.counters.born ≡ length s.graph
   pub roots : v.roots ≡ word_roots s.heap.place s.roots
   pub stack : s.stack ≡ v.stack
-  pub pages : s.heap.pages ≡ map (λ (page : Page). Some page.pool) v.pages
-  pub limit : s.heap.limit ≡ v.limit
-  pub place : StandsInOrder s.heap.place v.places
-  pub count : length v.places ≡ length v.items
-  pub used : AreUsed v.places v.pages
-  pub are_pages : ArePages v.pages
-  pub untouched : IsUntouched s
+  pub untouched : IsUntouched s v.heap
 
 -- the view has what a sound state has
 pub record Holds (v : View) (s : State) : Type 0 where

@@ -1,5 +1,5 @@
 // The parts of a space, and its answers.
-ghost use Rattle.std.specs.Prelude.{◌≡◌, ◌≤◌, IfOk};
+ghost use Rattle.std.specs.Prelude.{◌≡◌, ◌≤◌, ◌<◌, ◌+◌, ◌^◌, IfOk};
 ghost use Rattle.space_model.specs.Sound.{IsGivenSmall};
 ghost use Rattle.space_model.specs.State.{State, opening};
 ghost use Rattle.space_engine.specs.Stands.{Holds};
@@ -11,27 +11,18 @@ mod reading;
 mod root_commands;
 mod stack_commands;
 
-use crate::objects::Object;
-use crate::pages::{NO_PAGE, Page};
-use indexmap::IndexSet;
-use space_model::{Command, Reply};
+use space_heap::Heap;
+use space_model::{Command, Ledger, Phase, Reply, Steps};
 use space_roots::{Roots, Stack};
 use std::alloc::{AllocError as NoMemory, Global};
 use std::marker::Model;
 
-/// The objects that were born, their places, what roots and the stack hold, and the pages.
+/// The objects in their slots, and what roots and the stack hold.
 #[derive(Drop)]
 pub struct Engine {
-    alloc: Global,
-    objects: Vec<Object>,
-    // Where the objects stand, in the order of birth: the name of an object is the index of its address, and 1.
-    places: IndexSet<u64>,
+    heap: Heap,
     roots: Roots,
     stack: Stack,
-    pages: Vec<Page>,
-    // The last page of each pool.
-    last: [u32; 5],
-    limit: u32,
 }
 
 impl Model for Engine {
@@ -39,38 +30,41 @@ impl Model for Engine {
 
     ghost Value = { View };
 
-    ghost use Rattle.space_engine.specs.Inside.{view_of, IsWithin};
+    ghost use Rattle.space_engine.specs.Inside.{view_of};
 
     ghost view = { view_of };
-
-    ghost invariant = { IsWithin };
 }
 
 impl Engine {
     /// Nothing is there yet.
     pub fn new(alloc: Global, limit: u32) -> Result<Engine, NoMemory>
-        requires { limit ≤ 4096 }
+        requires some { 1 ≤ limit }
+        requires most { limit ≤ 4096 }
         ensures view { IfOk result (λ engine. engine ≡ empty_view limit) }
         ensures holds { Holds (empty_view limit) (opening limit) }
     {
-        let mut objects = Vec::new(alloc);
-        objects.reserve(1)?;
         Ok(Engine {
-            alloc,
-            objects,
-            places: IndexSet::new(alloc),
+            heap: Heap::new(alloc, limit)?,
             roots: Roots::new(alloc),
             stack: Stack::new(alloc),
-            pages: Vec::new(alloc),
-            last: [NO_PAGE; 5],
-            limit,
         })
     }
 
+    /// What the collector is at.
+    pub fn phase(&self) -> Phase
+        ensures { result ≡ self.now.heap.phase }
+    {
+        self.heap.phase()
+    }
+
     /// The reply to a command.
-    pub fn answer(&mut self, command: &Command) -> Reply
-        requires { IsGivenSmall command.now }
-        ensures { (s : State) → Holds self.old s → Answers s self.new command.now result }
+    pub fn answer<L: Ledger>(&mut self, command: &Command, steps: &mut Steps<L>) -> Reply
+        requires given { IsGivenSmall command.now }
+        requires names { self.old.heap.counters.born < 2 ^ 62 }
+        requires steps { steps.old < 2 ^ 62 }
+        ensures answers { (s : State) → Holds self.old s → Answers s self.new command.now result }
+        ensures born { self.new.heap.counters.born ≤ self.old.heap.counters.born + 1 }
+        ensures steps { (steps.old ≤ steps.new) × (steps.new ≤ steps.old + 1) }
     {
         match command {
             Command::New {
@@ -93,7 +87,7 @@ impl Engine {
                 root,
                 object,
                 index,
-            } => self.load(root, object, *index),
+            } => self.load(root, object, *index, steps),
             Command::Same { left, right } => self.compare(left, right),
         }
     }

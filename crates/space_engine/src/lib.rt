@@ -1,11 +1,10 @@
 //! The space: it answers commands, each by lawful outputs.
 #![tactic(auto)]
 
+mod births;
 mod counts;
 mod engine;
-mod objects;
 mod operands;
-mod pages;
 mod space;
 #[cfg(test)]
 mod tests;

@@ -1,8 +1,7 @@
 // How refusals are found, and how values are compared.
 ghost use Rattle.std.specs.Prelude.{◌≡◌};
 ghost use Rattle.space_model.specs.Answers.{is_same_value};
-ghost use Rattle.space_model.specs.Operands.{object_in};
-ghost use Rattle.space_model.specs.Refusals.{rank as rank_of, first_refusal, both as both_values};
+ghost use Rattle.space_model.specs.Refusals.{rank as rank_of, first_refusal, both as both_results};
 
 use space_model::{Refusal, Value};
 
@@ -26,12 +25,12 @@ fn first(why: Refusal, other: Refusal) -> Refusal
     if rank(why) <= rank(other) { why } else { other }
 }
 
-/// Both values, or the refusal that comes first in the order.
-pub fn both(
-    left: Result<Value, Refusal>,
-    right: Result<Value, Refusal>,
-) -> Result<(Value, Value), Refusal>
-    ensures { result ≡ both_values left right }
+/// Both, or the refusal that comes first in the order.
+pub fn both<A: Drop, B: Drop>(
+    left: Result<A, Refusal>,
+    right: Result<B, Refusal>,
+) -> Result<(A, B), Refusal>
+    ensures { result ≡ both_results left right }
 {
     match (left, right) {
         (Ok(a), Ok(b)) => Ok((a, b)),
@@ -50,15 +49,5 @@ pub fn is_same(a: Value, b: Value) -> bool
         (Value::Small(a), Value::Small(b)) => a == b,
         (Value::Name(a), Value::Name(b)) => a == b,
         _ => false,
-    }
-}
-
-/// The name that a value is, where an object is needed.
-pub fn object_of(value: Value) -> Result<u64, Refusal>
-    ensures { result ≡ object_in value }
-{
-    match value {
-        Value::Name(name) => Ok(name),
-        _ => Err(Refusal::NotObject),
     }
 }

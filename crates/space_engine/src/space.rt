@@ -39,7 +39,11 @@ impl Model for Space {
 
     ghost Value = { SpaceView };
 
-    ghost view = { λ space. record { parts = space.engine; turns = space.turns; is_spent = space.is_spent } };
+    ghost use Rattle.space_engine.specs.Inside.{space_of, IsWithin};
+
+    ghost view = { space_of };
+
+    ghost invariant = { IsWithin };
 }
 
 impl Space {
@@ -61,7 +65,7 @@ impl Space {
     pub fn phase(&self) -> Phase
         ensures { (s : State) → Stands self.now s → result ≡ s.collector.phase }
     {
-        Phase::Idle
+        self.engine.phase()
     }
 
     /// The number of commands so far.
@@ -93,7 +97,7 @@ impl Space {
         ensures steps { (steps.old ≤ steps.new) × (steps.new < steps.old + 2 ^ 26) }
     {
         self.turns += 1;
-        let reply = self.engine.answer(command);
+        let reply = self.engine.answer(command, steps);
         match write_reply(&reply, sink) {
             Ok(()) => Ok(counts_of_reply(&reply)),
             Err(_) => {

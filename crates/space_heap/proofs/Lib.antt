@@ -14,5 +14,6 @@ mod Placed
 pub mod NewPages
 pub mod NewPageLaws
 pub mod NewPageSlots
+pub mod EmptyHeaps
 mod FirstSlots
 mod NextObjects

@@ -46,15 +46,15 @@ fn replay<S: Source, K: Sink>(
     requires lines { lines ≡ at_start }
     requires able { space.is_spent ≡ false }
     requires turns { space.turns ≡ 0 }
-    requires stands { Stands space (opening space.parts.limit) }
+    requires stands { Stands space (opening space.parts.heap.limit) }
 
     ensures status { (result ≢ 1) × (result ≢ 2) × (result ≤ 6) }
-    ensures done { result ≡ 0 → Replays space.parts.limit (S.rest source.old) (S.rest source.new) (K.written sink.old) (K.written sink.new) }
-    ensures malformed { result ≡ 3 → StopsAtLine space.parts.limit (S.rest source.old) (S.rest source.new) (K.written sink.old) (K.written sink.new) }
+    ensures done { result ≡ 0 → Replays space.parts.heap.limit (S.rest source.old) (S.rest source.new) (K.written sink.old) (K.written sink.new) }
+    ensures malformed { result ≡ 3 → StopsAtLine space.parts.heap.limit (S.rest source.old) (S.rest source.new) (K.written sink.old) (K.written sink.new) }
     ensures read_fault { result ≡ 4 → Rose (S.faults source.old) (S.faults source.new) }
-    ensures answered { result ≡ 4 → HasFailedRead space.parts.limit (S.rest source.old) (S.rest source.new) (K.written sink.old) (K.written sink.new) }
+    ensures answered { result ≡ 4 → HasFailedRead space.parts.heap.limit (S.rest source.old) (S.rest source.new) (K.written sink.old) (K.written sink.new) }
     ensures write_fault { result ≡ 5 → Rose (K.faults sink.old) (K.faults sink.new) }
-    ensures limit { result ≡ 6 → HasReachedLimit space.parts.limit (S.rest source.old) (S.rest source.new) (K.written sink.old) (K.written sink.new) }
+    ensures limit { result ≡ 6 → HasReachedLimit space.parts.heap.limit (S.rest source.old) (S.rest source.new) (K.written sink.old) (K.written sink.new) }
     ensures reads_counted { S.faults source.old ≤ S.faults source.new }
     ensures writes_counted { K.faults sink.old ≤ K.faults sink.new }
 {

@@ -1,50 +1,24 @@
-// What operands stand for: names, words and values.
-ghost use Rattle.std.specs.Prelude.{◌≡◌, ◌<◌, length, IfOk};
-ghost use Rattle.std.specs.Option.{unwrap_or};
-ghost use Rattle.std.specs.FinMap.{get};
+// What operands stand for: words, names and values.
+ghost use Rattle.std.specs.Prelude.{◌≡◌, ◌<◌, ◌≤◌, ◌+◌, ◌^◌, true, length, IfOk};
 ghost use Rattle.space_model.specs.Answers.{field_value};
-ghost use Rattle.space_model.specs.Graph.{item_of};
-ghost use Rattle.space_model.specs.Operands.{field_in, input_value, named_by, operand_value, value_word, word_value};
-ghost use Rattle.space_model.specs.Sound.{IsSmall};
+ghost use Rattle.space_model.specs.Operands.{input_value, named_by, operand_value, word_value};
+ghost use Rattle.space_model.specs.Sound.{IsSmallInput};
 ghost use Rattle.space_model.specs.State.{State};
+ghost use Rattle.space_heap.specs.Objects.{stands, object_of};
 ghost use Rattle.space_engine.specs.Stands.{Holds};
-ghost use Rattle.space_engine.specs.Words.{operand_word};
+ghost use Rattle.space_engine.specs.Words.{operand_word, word_result, owner_of_field, field_word};
 
 use super::Engine;
-use crate::objects::read_field;
-use crate::operands::object_of;
-use space_model::{Input, Operand, Refusal, Value, small_of};
+use space_model::{Input, Ledger, Operand, Refusal, Steps, Value, small_of};
 
 impl Engine {
     /// The name of the object that stands at this address, if one does.
     pub fn name_of(&self, word: u64) -> Option<u64>
         ensures { (s : State) → Holds self.now s → result ≡ named_by s.heap.place word }
     {
-        let index = self.places.get_index_of(&word)?;
-        Some(index as u64 + 1)
-    }
-
-    /// The address of the object with this name, and 0 where there is none.
-    pub fn place_of(&self, name: u64) -> u64
-        ensures { (s : State) → Holds self.now s → result ≡ unwrap_or (get s.heap.place name) 0 }
-    {
-        if name == 0 {
-            return 0;
-        }
-        self.places
-            .get_index((name - 1) as usize)
-            .copied()
-            .unwrap_or(0)
-    }
-
-    /// The word of a value.
-    pub fn word_of(&self, value: Value) -> u64
-        ensures { (s : State) → Holds self.now s → IsSmall value → result ≡ value_word s.heap.place value }
-    {
-        match value {
-            Value::Nil => 0,
-            Value::Small(number) => number.saturating_mul(2).saturating_add(1),
-            Value::Name(name) => self.place_of(name),
+        match self.heap.object_at(word) {
+            Some(address) => Some(self.heap.name(address)),
+            None => None,
         }
     }
 
@@ -62,12 +36,15 @@ impl Engine {
         Some(Value::Name(name))
     }
 
-    // The word of an operand.
+    // The word of an operand; that of a root is resolved.
     fn word_at(&self, operand: &Operand) -> Result<u64, Refusal>
-        ensures { result ≡ operand_word self.now.roots self.now.stack operand.now }
+        ensures { result ≡ operand_word self.now operand.now }
     {
         match operand {
-            Operand::Root(name) => self.roots.get(*name).ok_or(Refusal::NoRoot),
+            Operand::Root(name) => match self.roots.get(*name) {
+                Some(word) => Ok(self.heap.resolve(word)),
+                None => Err(Refusal::NoRoot),
+            },
             Operand::Word(k) => self.stack.word_at(*k).ok_or(Refusal::NoWord),
         }
     }
@@ -80,31 +57,78 @@ impl Engine {
         self.value_of_word(word).ok_or(Refusal::NotObject)
     }
 
-    /// The value that a command is given.
-    pub fn input_of(&self, input: &Input) -> Result<Value, Refusal>
-        ensures { (s : State) → Holds self.now s → result ≡ input_value s input.now }
+    /// The word of the value of an operand.
+    pub fn word_of(&self, operand: &Operand) -> Result<u64, Refusal>
+        ensures { (s : State) → Holds self.now s → result ≡ word_result s.heap.place (operand_value s operand.now) }
     {
-        match input {
-            Input::From(operand) => self.value_of(operand),
-            Input::Nil => Ok(Value::Nil),
-            Input::Small(number) => Ok(Value::Small(*number)),
+        let word = self.word_at(operand)?;
+        match self.value_of_word(word) {
+            Some(_) => Ok(word),
+            None => Err(Refusal::NotObject),
         }
     }
 
-    /// The value of a field of the object with this name.
-    pub fn field_of(&self, name: u64, index: u64) -> Result<Value, Refusal>
-        ensures value { result ≡ field_in (item_of self.now.items name) index }
-        ensures there { IfOk result (λ _. index < length (item_of self.now.items name).values) }
+    /// The word of the value that a command is given.
+    pub fn input_word(&self, input: &Input) -> Result<u64, Refusal>
+        requires { IsSmallInput input.now }
+        ensures { (s : State) → Holds self.now s → result ≡ word_result s.heap.place (input_value s input.now) }
     {
-        read_field(&self.objects, name, index)
+        match input {
+            Input::From(operand) => self.word_of(operand),
+            Input::Nil => Ok(0),
+            Input::Small(number) => Ok(2 * *number + 1),
+        }
     }
 
-    /// The value of a field of an operand's object.
-    pub fn read(&self, object: &Operand, index: u64) -> Result<Value, Refusal>
-        ensures { (s : State) → Holds self.now s → result ≡ field_value self.now.items (operand_value s object.now) index }
+    /// The address of the object that the word names, where it has this field.
+    pub fn owner_of(&self, word: u64, index: u64) -> Result<u64, Refusal>
+        ensures owner { result ≡ owner_of_field self.now.heap word index }
+        ensures there { IfOk result (λ address. stands self.now.heap address ≡ true) }
+        ensures field { IfOk result (λ address. index < length (object_of self.now.heap address).fields) }
     {
-        let value = self.value_of(object)?;
-        let name = object_of(value)?;
-        self.field_of(name, index)
+        match self.heap.object_at(word) {
+            Some(address) => {
+                if index < self.heap.field_count(address) {
+                    Ok(address)
+                } else {
+                    Err(Refusal::NoField)
+                }
+            }
+            None => Err(Refusal::NotObject),
+        }
+    }
+
+    // The word of a field of the object that the word names.
+    fn field_of<L: Ledger>(
+        &self,
+        word: u64,
+        index: u64,
+        steps: &mut Steps<L>,
+    ) -> Result<u64, Refusal>
+        requires { steps.old < 2 ^ 62 }
+        ensures word { result ≡ field_word self.now.heap word index }
+        ensures steps { (steps.old ≤ steps.new) × (steps.new ≤ steps.old + 1) }
+    {
+        match self.owner_of(word, index) {
+            Ok(address) => Ok(self.heap.field(address, index, steps)),
+            Err(why) => Err(why),
+        }
+    }
+
+    /// The word of a field of an operand's object.
+    pub fn read<L: Ledger>(
+        &self,
+        object: &Operand,
+        index: u64,
+        steps: &mut Steps<L>,
+    ) -> Result<u64, Refusal>
+        requires { steps.old < 2 ^ 62 }
+        ensures word { (s : State) → Holds self.now s → result ≡ word_result s.heap.place (field_value s.graph (operand_value s object.now) index) }
+        ensures steps { (steps.old ≤ steps.new) × (steps.new ≤ steps.old + 1) }
+    {
+        match self.word_of(object) {
+            Ok(word) => self.field_of(word, index, steps),
+            Err(why) => Err(why),
+        }
     }
 }

@@ -1,5 +1,5 @@
 // The commands that write roots.
-ghost use Rattle.std.specs.Prelude.{◌≡◌, None, OnOk, OnErr, is_some};
+ghost use Rattle.std.specs.Prelude.{◌≡◌, ◌≤◌, ◌<◌, ◌+◌, ◌^◌, None, OnOk, OnErr, is_some};
 ghost use Rattle.space_model.specs.declared.command.Command.TheVariants.{Set, DropRoot, Load};
 ghost use Rattle.space_model.specs.Sound.{IsSmallInput};
 ghost use Rattle.space_model.specs.State.{State};
@@ -9,7 +9,7 @@ ghost use Rattle.space_engine.specs.Steps.{Answers};
 ghost use Rattle.space_engine.specs.Views.{with_root_written, with_root_dropped};
 
 use super::Engine;
-use space_model::{Ident, Input, Operand, Refusal, Reply};
+use space_model::{Ident, Input, Ledger, Operand, Refusal, Reply, Steps, Value};
 use std::alloc::AllocError as NoMemory;
 
 impl Engine {
@@ -33,13 +33,13 @@ impl Engine {
     /// The root holds the value.
     pub fn set(&mut self, root: &Ident, value: &Input) -> Reply
         requires { IsSmallInput value.now }
-        ensures { (s : State) → Holds self.old s → Answers s self.new (Set root.now value.now) result }
+        ensures answers { (s : State) → Holds self.old s → Answers s self.new (Set root.now value.now) result }
+        ensures heap { self.new.heap ≡ self.old.heap }
     {
-        let found = match self.input_of(value) {
-            Ok(found) => found,
+        let word = match self.input_word(value) {
+            Ok(word) => word,
             Err(why) => return Reply::Refused { why },
         };
-        let word = self.word_of(found);
         match self.put_root(root, word) {
             Ok(()) => Reply::Done,
             Err(_) => Reply::NoMemory,
@@ -48,7 +48,8 @@ impl Engine {
 
     /// The root is taken away, where there is one.
     pub fn drop_root(&mut self, root: &Ident) -> Reply
-        ensures { (s : State) → Holds self.old s → Answers s self.new (DropRoot root.now) result }
+        ensures answers { (s : State) → Holds self.old s → Answers s self.new (DropRoot root.now) result }
+        ensures heap { self.new.heap ≡ self.old.heap }
     {
         if self.take_root(root) {
             Reply::Done
@@ -60,14 +61,23 @@ impl Engine {
     }
 
     /// The root holds the value of a field.
-    pub fn load(&mut self, root: &Ident, object: &Operand, index: u64) -> Reply
-        ensures { (s : State) → Holds self.old s → Answers s self.new (Load root.now object.now index) result }
+    pub fn load<L: Ledger>(
+        &mut self,
+        root: &Ident,
+        object: &Operand,
+        index: u64,
+        steps: &mut Steps<L>,
+    ) -> Reply
+        requires { steps.old < 2 ^ 62 }
+        ensures answers { (s : State) → Holds self.old s → Answers s self.new (Load root.now object.now index) result }
+        ensures heap { self.new.heap ≡ self.old.heap }
+        ensures steps { (steps.old ≤ steps.new) × (steps.new ≤ steps.old + 1) }
     {
-        let value = match self.read(object, index) {
-            Ok(value) => value,
+        let word = match self.read(object, index, steps) {
+            Ok(word) => word,
             Err(why) => return Reply::Refused { why },
         };
-        let word = self.word_of(value);
+        let value = self.value_of_word(word).unwrap_or(Value::Nil);
         match self.put_root(root, word) {
             Ok(()) => Reply::Read { value },
             Err(_) => Reply::NoMemory,

@@ -32,7 +32,8 @@ impl Engine {
 
     /// The word goes on the stack as it is.
     pub fn raw(&mut self, word: u64) -> Reply
-        ensures { (s : State) → Holds self.old s → Answers s self.new (Raw word) result }
+        ensures answers { (s : State) → Holds self.old s → Answers s self.new (Raw word) result }
+        ensures heap { self.new.heap ≡ self.old.heap }
     {
         let names = self.name_of(word);
         match self.put_word(word) {
@@ -44,19 +45,19 @@ impl Engine {
     /// The word of the value goes on the stack.
     pub fn push(&mut self, value: &Input) -> Reply
         requires { IsSmallInput value.now }
-        ensures { (s : State) → Holds self.old s → Answers s self.new (Push value.now) result }
+        ensures answers { (s : State) → Holds self.old s → Answers s self.new (Push value.now) result }
+        ensures heap { self.new.heap ≡ self.old.heap }
     {
-        let found = match self.input_of(value) {
-            Ok(found) => found,
-            Err(why) => return Reply::Refused { why },
-        };
-        let word = self.word_of(found);
-        self.raw(word)
+        match self.input_word(value) {
+            Ok(word) => self.raw(word),
+            Err(why) => Reply::Refused { why },
+        }
     }
 
     /// The top word is taken away, where there is one.
     pub fn pop(&mut self) -> Reply
-        ensures { (s : State) → Holds self.old s → Answers s self.new Pop result }
+        ensures answers { (s : State) → Holds self.old s → Answers s self.new Pop result }
+        ensures heap { self.new.heap ≡ self.old.heap }
     {
         match self.take_word() {
             Some(_) => Reply::Done,

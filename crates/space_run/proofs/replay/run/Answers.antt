@@ -13,25 +13,25 @@ returns-clause-refused g c = λ none. absurd (none c.in-Some.limit c.in-Some.ens
 
 pub returns-clause-done : goal.returns-clause-done
 returns-clause-done g c = λ limit words zero.
-    let same : c.in-Ok-new.space.parts.limit ≡ limit = ap (λ (v : SpaceView). v.parts.limit) c.in-Ok-new.ensures.view ∙ one_limit (texts_of c.args.words.now.items) c.in-Some.limit limit c.in-Some.ensures words in
+    let same : c.in-Ok-new.space.parts.heap.limit ≡ limit = ap (λ (v : SpaceView). v.parts.heap.limit) c.in-Ok-new.ensures.view ∙ one_limit (texts_of c.args.words.now.items) c.in-Some.limit limit c.in-Some.ensures words in
     let Done : ℕ → Type 0 = λ n. Replays n (g.S.Source.rest c.args.source.now) (g.S.Source.rest c.replay.new.source) (g.K.Sink.written c.args.sink.now) (g.K.Sink.written c.replay.new.sink) in
     subst Done same (c.replay.ensures.done zero)
 
 pub returns-clause-malformed : goal.returns-clause-malformed
 returns-clause-malformed g c = λ limit words three.
-    let same : c.in-Ok-new.space.parts.limit ≡ limit = ap (λ (v : SpaceView). v.parts.limit) c.in-Ok-new.ensures.view ∙ one_limit (texts_of c.args.words.now.items) c.in-Some.limit limit c.in-Some.ensures words in
+    let same : c.in-Ok-new.space.parts.heap.limit ≡ limit = ap (λ (v : SpaceView). v.parts.heap.limit) c.in-Ok-new.ensures.view ∙ one_limit (texts_of c.args.words.now.items) c.in-Some.limit limit c.in-Some.ensures words in
     let Stops : ℕ → Type 0 = λ n. StopsAtLine n (g.S.Source.rest c.args.source.now) (g.S.Source.rest c.replay.new.source) (g.K.Sink.written c.args.sink.now) (g.K.Sink.written c.replay.new.sink) in
     subst Stops same (c.replay.ensures.malformed three)
 
 pub returns-clause-answered : goal.returns-clause-answered
 returns-clause-answered g c = λ limit words four.
-    let same : c.in-Ok-new.space.parts.limit ≡ limit = ap (λ (v : SpaceView). v.parts.limit) c.in-Ok-new.ensures.view ∙ one_limit (texts_of c.args.words.now.items) c.in-Some.limit limit c.in-Some.ensures words in
+    let same : c.in-Ok-new.space.parts.heap.limit ≡ limit = ap (λ (v : SpaceView). v.parts.heap.limit) c.in-Ok-new.ensures.view ∙ one_limit (texts_of c.args.words.now.items) c.in-Some.limit limit c.in-Some.ensures words in
     let Fails : ℕ → Type 0 = λ n. HasFailedRead n (g.S.Source.rest c.args.source.now) (g.S.Source.rest c.replay.new.source) (g.K.Sink.written c.args.sink.now) (g.K.Sink.written c.replay.new.sink) in
     subst Fails same (c.replay.ensures.answered four)
 
 pub returns-clause-limit : goal.returns-clause-limit
 returns-clause-limit g c = λ limit words six.
-    let same : c.in-Ok-new.space.parts.limit ≡ limit = ap (λ (v : SpaceView). v.parts.limit) c.in-Ok-new.ensures.view ∙ one_limit (texts_of c.args.words.now.items) c.in-Some.limit limit c.in-Some.ensures words in
+    let same : c.in-Ok-new.space.parts.heap.limit ≡ limit = ap (λ (v : SpaceView). v.parts.heap.limit) c.in-Ok-new.ensures.view ∙ one_limit (texts_of c.args.words.now.items) c.in-Some.limit limit c.in-Some.ensures words in
     let Reaches : ℕ → Type 0 = λ n. HasReachedLimit n (g.S.Source.rest c.args.source.now) (g.S.Source.rest c.replay.new.source) (g.K.Sink.written c.args.sink.now) (g.K.Sink.written c.replay.new.sink) in
     subst Reaches same (c.replay.ensures.limit six)
 
