@@ -32,18 +32,18 @@ use Rattle.space_engine.specs.Stands.{Represents, Holds}
 use Rattle.space_engine.specs.Steps.{Answers}
 use Rattle.space_engine.specs.Views.{View, with_root_written, with_root_dropped, with_stack, with_field}
 use Rattle.space_engine.specs.Words.{word_result, written_words}
-use Rattle.space_engine.proofs.Pages.{pages_moved}
+use Rattle.space_engine.proofs.Pages.{pages_moved, progress_moved, unmoved_moved}
 use Rattle.space_engine.proofs.RootWords.{with_root_word-word_roots, without_word-word_roots}
 use Rattle.space_engine.proofs.Reading.{root_absent, root_there}
 use Rattle.space_engine.proofs.Storing.{stored_represents}
 
 -- nothing was made, since memory was lacking
-pub not_made : (v : View) (s : State) (root : List ℕ) (fields : ℕ) (guard : Guard) (style : Style) → fields ≤ 78 → Represents v s → Answers s v (New root fields guard style) NoMemory
-not_made v s root fields guard style few h = record { state = s; represents = h; effects = (refl, (few, refl)) }
+pub not_made : (v : View) (s : State) (root : List ℕ) (fields : ℕ) (guard : Guard) (style : Style) → fields ≤ 78 → Holds v s → Answers s v (New root fields guard style) NoMemory
+not_made v s root fields guard style few h = record { state = s; represents = h.represents; idle = h.idle; effects = (refl, (few, refl)) }
 
 -- an object can't have so many fields
-pub too_large : (v : View) (s : State) (root : List ℕ) (fields : ℕ) (guard : Guard) (style : Style) → 78 < fields → Represents v s → Answers s v (New root fields guard style) (Refused TooLarge)
-too_large v s root fields guard style many h = record { state = s; represents = h; effects = (refl, (many, refl, refl)) }
+pub too_large : (v : View) (s : State) (root : List ℕ) (fields : ℕ) (guard : Guard) (style : Style) → 78 < fields → Holds v s → Answers s v (New root fields guard style) (Refused TooLarge)
+too_large v s root fields guard style many h = record { state = s; represents = h.represents; idle = h.idle; effects = (refl, (many, refl, refl)) }
 
 ok_same : (a b : ℕ) → ◌≡◌ {A = Result ℕ Refusal} (Ok a) (Ok b) → a ≡ b
 ok_same a b e = cc
@@ -57,60 +57,43 @@ module _ (v : View) (s : State) (h : Holds v s) where
   with_root_represents : (root : List ℕ) (value : Value) (word : ℕ) → word ≡ value_word s.heap.place value → Represents (with_root_written v root word) (noted (rooted s root value))
   with_root_represents root value word e = record {
     objects = h.represents.objects;
+    corpses = h.represents.corpses;
     pages = pages_moved s (noted (rooted s root value)) v.heap refl h.represents.pages;
-    born = h.represents.born;
+    progress = progress_moved s (noted (rooted s root value)) v.heap refl refl refl h.represents.progress;
+    unmoved = unmoved_moved s (noted (rooted s root value)) v.heap refl h.represents.unmoved;
     roots = rw (h.represents.roots, e) (with_root_word-word_roots s.heap.place s.roots root value);
     stack = h.represents.stack;
-    untouched = record {
-      idle = h.represents.untouched.idle;
-      phase = h.represents.untouched.phase;
-      corpses = h.represents.untouched.corpses;
-      left = h.represents.untouched.left;
-      unswept = h.represents.untouched.unswept;
-      still = h.represents.untouched.still;
-    };
   }
 
   -- the state after a root was taken away
   with_root_dropped_represents : (root : List ℕ) → Represents (with_root_dropped v root) (noted (unrooted s root))
   with_root_dropped_represents root = record {
     objects = h.represents.objects;
+    corpses = h.represents.corpses;
     pages = pages_moved s (noted (unrooted s root)) v.heap refl h.represents.pages;
-    born = h.represents.born;
+    progress = progress_moved s (noted (unrooted s root)) v.heap refl refl refl h.represents.progress;
+    unmoved = unmoved_moved s (noted (unrooted s root)) v.heap refl h.represents.unmoved;
     roots = rw h.represents.roots (without_word-word_roots s.heap.place s.roots root);
     stack = h.represents.stack;
-    untouched = record {
-      idle = h.represents.untouched.idle;
-      phase = h.represents.untouched.phase;
-      corpses = h.represents.untouched.corpses;
-      left = h.represents.untouched.left;
-      unswept = h.represents.untouched.unswept;
-      still = h.represents.untouched.still;
-    };
   }
 
   -- the state with another stack
   with_stack_represents : (words : List ℕ) → Represents (with_stack v words) (noted (stacked s words))
   with_stack_represents words = record {
     objects = h.represents.objects;
+    corpses = h.represents.corpses;
     pages = pages_moved s (noted (stacked s words)) v.heap refl h.represents.pages;
-    born = h.represents.born;
+    progress = progress_moved s (noted (stacked s words)) v.heap refl refl refl h.represents.progress;
+    unmoved = unmoved_moved s (noted (stacked s words)) v.heap refl h.represents.unmoved;
     roots = h.represents.roots;
     stack = refl;
-    untouched = record {
-      idle = h.represents.untouched.idle;
-      phase = h.represents.untouched.phase;
-      corpses = h.represents.untouched.corpses;
-      left = h.represents.untouched.left;
-      unswept = h.represents.untouched.unswept;
-      still = h.represents.untouched.still;
-    };
   }
 
   set_value : (root : List ℕ) (input : Input) (word : ℕ) (found : Result Value Refusal) → input_value s input ≡ found → Ok word ≡ word_result s.heap.place found → Answers s (with_root_written v root word) (Set root input) Done
   set_value root input word (Ok value) e w = record {
     state = noted (rooted s root value);
     represents = with_root_represents root value word (ok_same word (value_word s.heap.place value) w);
+    idle = h.idle;
     effects = (refl, rw e (inl (refl, refl)));
   }
   set_value root input word (Err why) e w = absurd (cc)
@@ -122,6 +105,7 @@ module _ (v : View) (s : State) (h : Holds v s) where
   unset_value root input word (Ok value) e w none = record {
     state = s;
     represents = h.represents;
+    idle = h.idle;
     effects = (refl, rw e (inr (refl, root_absent v s h root none, refl)));
   }
   unset_value root input word (Err why) e w none = absurd (cc)
@@ -138,6 +122,7 @@ module _ (v : View) (s : State) (h : Holds v s) where
   set_refused root input why e = record {
     state = s;
     represents = h.represents;
+    idle = h.idle;
     effects = (refl, rw (refused_value (input_value s input) why e) (record { reply_is = refl; unchanged = refl }));
   }
 
@@ -147,6 +132,7 @@ module _ (v : View) (s : State) (h : Holds v s) where
       record {
         state = noted (unrooted s root);
         represents = with_root_dropped_represents root;
+        idle = h.idle;
         effects = (refl, rw has.1 (refl, refl));
       }
 
@@ -156,6 +142,7 @@ module _ (v : View) (s : State) (h : Holds v s) where
       record {
         state = s;
         represents = rw (without_root-absent v.roots root none) h.represents;
+        idle = h.idle;
         effects = (refl, rw (root_absent v s h root none) (record { reply_is = refl; unchanged = refl }));
       }
 
@@ -169,6 +156,7 @@ module _ (v : View) (s : State) (h : Holds v s) where
       record {
         state = noted (rooted s root value);
         represents = with_root_represents root value word word_is;
+        idle = h.idle;
         effects = (refl, rw e (inl (ap (λ (o : Option Value). Read (unwrap_or o Nil)) read, refl)));
       }
   load_value root object index word told (Err why) e w t = absurd (cc)
@@ -181,6 +169,7 @@ module _ (v : View) (s : State) (h : Holds v s) where
   unload_value root object index word (Ok value) e w none = record {
     state = s;
     represents = h.represents;
+    idle = h.idle;
     effects = (refl, rw e (inr (refl, root_absent v s h root none, refl)));
   }
   unload_value root object index word (Err why) e w none = absurd (cc)
@@ -192,6 +181,7 @@ module _ (v : View) (s : State) (h : Holds v s) where
   load_refused root object index why e = record {
     state = s;
     represents = h.represents;
+    idle = h.idle;
     effects = (refl, rw (refused_value (field_value s.graph (operand_value s object) index) why e) (record { reply_is = refl; unchanged = refl }));
   }
 
@@ -208,6 +198,7 @@ module _ (v : View) (s : State) (h : Holds v s) where
       subst (λ (p : ℕ × ℕ). Answers s (with_field v p.0 index p.1) (Store object index input) Done) (sym pair) (record {
         state = noted (stored s name index value);
         represents = stored_represents v s h.represents h.sound name (value_word s.heap.place (Name name)) index value (written_at object index input name value i e);
+        idle = h.idle;
         effects = (refl, rw e (refl, refl));
       })
   store_value object index input address word (Err why) i e w = absurd (cc)
@@ -223,26 +214,28 @@ module _ (v : View) (s : State) (h : Holds v s) where
   store_refused object index input why e = record {
     state = s;
     represents = h.represents;
+    idle = h.idle;
     effects = (refl, rw (refused_write (written_field s.graph (operand_value s object) index (input_value s input)) why e) (record { reply_is = refl; unchanged = refl }));
   }
 
   pub compared : (left right : Operand) (reply : Reply) → reply ≡ same_reply (both (operand_value s left) (operand_value s right)) → Answers s v (Same left right) reply
-  compared left right reply e = record { state = s; represents = h.represents; effects = (refl, (e, refl)) }
+  compared left right reply e = record { state = s; represents = h.represents; idle = h.idle; effects = (refl, (e, refl)) }
 
   pub raw_done : (word : ℕ) (names : Option ℕ) → names ≡ named_by s.heap.place word → Answers s (with_stack v (v.stack ++ word ∷ [])) (Raw word) (Pushed word names)
   raw_done word names e = record {
     state = noted (stacked s (v.stack ++ word ∷ []));
     represents = with_stack_represents (v.stack ++ word ∷ []);
+    idle = h.idle;
     effects = (refl, inl (ap (Pushed word) e, rw h.represents.stack refl));
   }
 
   pub raw_lacking : (word : ℕ) → Answers s v (Raw word) NoMemory
-  raw_lacking word = record { state = s; represents = h.represents; effects = (refl, inr (refl, refl)) }
+  raw_lacking word = record { state = s; represents = h.represents; idle = h.idle; effects = (refl, inr (refl, refl)) }
 
   push_value : (new : View) (input : Input) (word : ℕ) (reply : Reply) (found : Result Value Refusal) → input_value s input ≡ found → Ok word ≡ word_result s.heap.place found → Answers s new (Raw word) reply → Answers s new (Push input) reply
   push_value new input word reply (Ok value) e w a =
       let raws : Raws s (value_word s.heap.place value) reply a.state = subst (λ n. Raws s n reply a.state) (ok_same word (value_word s.heap.place value) w) a.effects.1 in
-      record { state = a.state; represents = a.represents; effects = (refl, rw e raws) }
+      record { state = a.state; represents = a.represents; idle = a.idle; effects = (refl, rw e raws) }
   push_value new input word reply (Err why) e w a = absurd (cc)
 
   -- what is pushed is the word of the value
@@ -253,6 +246,7 @@ module _ (v : View) (s : State) (h : Holds v s) where
   push_refused input why e = record {
     state = s;
     represents = h.represents;
+    idle = h.idle;
     effects = (refl, rw (refused_value (input_value s input) why e) (record { reply_is = refl; unchanged = refl }));
   }
 
@@ -260,6 +254,7 @@ module _ (v : View) (s : State) (h : Holds v s) where
   popped others top e = record {
     state = noted (stacked s others);
     represents = with_stack_represents others;
+    idle = h.idle;
     effects = (refl, inl (record { top = top; others = others; stack_is = h.represents.stack ∙ e; reply_is = refl; after = refl }));
   }
 
@@ -267,5 +262,6 @@ module _ (v : View) (s : State) (h : Holds v s) where
   pop_refused e = record {
     state = s;
     represents = h.represents;
+    idle = h.idle;
     effects = (refl, inr (h.represents.stack ∙ e, record { reply_is = refl; unchanged = refl }));
   }

@@ -1,5 +1,5 @@
 -- The answers of `new`, from what the heap tells of a birth.
-use Rattle.std.proofs.Common.{◌≡◌, ℕ, ◌+◌, ◌^◌, ◌<◌, ◌≤◌, List, length, true≢false, ap, ◌∙◌, sym, subst, refl, arith, nat_eq, Option, Some, ⊎_elim, inl, inr}
+use Rattle.std.proofs.Common.{◌≡◌, ℕ, ◌+◌, ◌^◌, ◌<◌, ◌≤◌, List, length, true≢false, false, ap, ◌∙◌, sym, subst, refl, arith, nat_eq, Option, Some, ⊎_elim, inl, inr}
 use Rattle.std.proofs.lemmas.Bool.{cases_eq, cond-true, cond-false}
 use Rattle.std.proofs.lemmas.Bool.Decides.{nat_tests}
 use Rattle.std.proofs.lemmas.Grind.{common_steps}
@@ -16,15 +16,15 @@ use Rattle.space_model.specs.Sound.{Sound}
 use Rattle.space_model.specs.State.{State}
 use Rattle.space_model.proofs.PageLaws.{pool_at-with_pool, page_of-slot_address}
 use Rattle.space_heap.specs.Slots.{new_object}
-use Rattle.space_heap.specs.HeapView.{Counters, HeapView, no_page, page_at, with_page}
+use Rattle.space_heap.specs.HeapView.{Counters, HeapView, no_page, page_at, is_unswept, with_page}
 use Rattle.space_heap.specs.Objects.{placed}
 use Rattle.space_heap.specs.FreeSlots.{is_free_at, IsFreeAt, IsLeastFree, HasNoFree}
 use Rattle.space_heap.specs.NewPages.{IsLeastSpare, IsNextPage}
-use Rattle.space_heap.proofs.NewPageLaws.{is_object-with_page, object_of-with_page, resolved-with_page}
+use Rattle.space_heap.proofs.FreeLaws.{is_moved-with_page}
+use Rattle.space_heap.proofs.NewPageLaws.{stands-with_page, is_object-with_page, object_of-with_page}
 use Rattle.space_heap.proofs.NewPageSlots.{rest-with_page, slot_free}
-use Rattle.space_heap.proofs.ObjectLaws.{born-placed}
 use Rattle.space_engine.specs.Births.{GetsPage, IsBirth, IsRootedBirth, LacksRoom}
-use Rattle.space_engine.specs.Stands.{Represents}
+use Rattle.space_engine.specs.Stands.{Represents, Holds}
 use Rattle.space_engine.specs.Steps.{Answers}
 use Rattle.space_engine.specs.Views.{View, with_heap, with_root_written}
 use Rattle.space_engine.proofs.FreshPages.{fresh_pages, first_of_page, fresh_page}
@@ -64,7 +64,13 @@ pub record IsPlaceOf (v w : View) (s : State) (fields : ℕ) (guard : Guard) (st
   pub free : IsFreeAt heap (pool_for fields) a
   pub becomes : w.heap ≡ placed heap a (new_object name fields guard style)
 
-module _ (v w : View) (s : State) (h : Represents v s) (sound : Sound s) (root : List ℕ) (fields : ℕ) (guard : Guard) (style : Style) (name a : ℕ) where
+module _ (v w : View) (s : State) (held : Holds v s) (root : List ℕ) (fields : ℕ) (guard : Guard) (style : Style) (name a : ℕ) where
+  abbrev h : Represents v s
+  h = held.represents
+
+  abbrev sound : Sound s
+  sound = held.sound
+
   abbrev pool : ℕ
   pool = pool_for fields
 
@@ -78,10 +84,12 @@ module _ (v w : View) (s : State) (h : Represents v s) (sound : Sound s) (root :
         heap = v.heap;
         roomy = record {
           has = pages_renamed s (with_pool s.heap.pages (page_of a) pool) v.heap (same_length s.heap.pages (page_of a) pool (within_pages s.heap.pages (page_of a) pool its)) (same_pools s.heap.pages (page_of a) pool its) h.pages;
+          standing = λ b. refl;
           same = λ b. refl;
           objects = λ b. refl;
-          still = λ word. refl;
+          moved = λ b. refl;
           phase = refl;
+          unswept = refl;
           counters = refl;
         };
         free = l.free;
@@ -104,10 +112,12 @@ module _ (v w : View) (s : State) (h : Represents v s) (sound : Sound s) (root :
         heap = with_page v.heap page pool;
         roomy = subst (λ k. IsRoomy v s (with_pool s.heap.pages k pool) (with_page v.heap page pool)) (sym first.0) (record {
           has = fresh_pages v s h sound page pool (known_pool fields) g;
+          standing = stands-with_page v.heap page pool within g.blank;
           same = is_object-with_page v.heap page pool within g.blank;
           objects = object_of-with_page v.heap page pool within g.blank;
-          still = resolved-with_page v.heap page pool within g.blank;
+          moved = is_moved-with_page v.heap page pool within g.blank;
           phase = rest.phase;
+          unswept = rest.unswept;
           counters = rest.counters;
         });
         free = l.free;
@@ -118,7 +128,7 @@ module _ (v w : View) (s : State) (h : Represents v s) (sound : Sound s) (root :
   place_of b = ⊎_elim
       (λ same. at_free (subst (λ heap. IsLeastFree heap pool a) same b.least) (b.becomes ∙ ap (λ heap. placed heap a (new_object name fields guard style)) same))
       (λ (page, g).
-      on_page page (record { none_free = g.none_free; next = g.next; blank = g.blank; becomes = refl })
+      on_page page (record { none_free = g.none_free; next = g.next; blank = g.blank; swept = g.swept; becomes = refl })
       (subst (λ heap. IsLeastFree heap pool a) g.becomes b.least) (b.becomes ∙ ap (λ heap. placed heap a (new_object name fields guard style)) g.becomes))
       b.room
 
@@ -126,13 +136,14 @@ module _ (v w : View) (s : State) (h : Represents v s) (sound : Sound s) (root :
   pub made : fields ≤ 78 → IsRootedBirth v w root fields guard style name a → Answers s w (New root fields guard style) (Made name a)
   made few r =
       let p = place_of r.birth in
-      let named : name ≡ length s.graph + 1 = r.birth.named ∙ ap (λ n. n + 1) h.born in
+      let named : name ≡ length s.graph + 1 = r.birth.named ∙ ap (λ n. n + 1) h.progress.born in
       let heap : w.heap ≡ placed p.heap a (new_object (length s.graph + 1) fields guard style) = p.becomes ∙ ap (λ n. placed p.heap a (new_object n fields guard style)) named in
       let is : w ≡ with_root_written (with_heap v (placed p.heap a (new_object (length s.graph + 1) fields guard style))) root a = r.becomes ∙ ap (λ heap. with_root_written (with_heap v heap) root a) heap in
       record {
         state = noted (born s root fields guard style a);
         represents = subst (λ w. Represents w (noted (born s root fields guard style a))) (sym is)
             (placed_represents v s h sound root fields guard style a (with_pool s.heap.pages (page_of a) pool) p.heap p.roomy p.free refl);
+        idle = held.idle;
         effects = (refl, record { few = few; next = named; place = p.place; after = refl });
       }
 
@@ -141,6 +152,7 @@ module _ (v w : View) (s : State) (h : Represents v s) (sound : Sound s) (root :
   made_none few (none, full) = record {
     state = s;
     represents = h;
+    idle = held.idle;
     effects = (
       refl,
       record {
@@ -159,31 +171,22 @@ module _ (v w : View) (s : State) (h : Represents v s) (sound : Sound s) (root :
 pub pages_names : (v w : HeapView) (page pool : ℕ) → w ≡ with_page v page pool → v.counters.born < 2 ^ 62 → w.counters.born < 2 ^ 62
 pages_names v w page pool e h = rw (e, (rest-with_page v page pool).counters) h
 
-within_next : (v : HeapView) (page : ℕ) → IsNextPage v page → page ≤ length v.pages
+pub within_next : (v : HeapView) (page : ℕ) → IsNextPage v page → page ≤ length v.pages
 within_next v page next = ⊎_elim (λ (x : IsLeastSpare v page). let lt = x.spare.0 in omega arith) (λ (none, is, below). omega arith) next
 
 -- the page has a free address
-pub has_free : (v w : HeapView) (fields page pool : ℕ) → IsNextPage v page → page_at v page ≡ no_page → pool ≡ pool_for fields → w ≡ with_page v page pool → HasNoFree w (pool_for fields) → ⊥
-has_free v w fields page pool next blank its e none =
-    let free = slot_free v page (pool_for fields) (within_next v page next) blank (known_pool fields) 0 (has_slot fields) in
+pub has_free : (v w : HeapView) (fields page pool : ℕ) → IsNextPage v page → page_at v page ≡ no_page → is_unswept v page ≡ false → pool ≡ pool_for fields → w ≡ with_page v page pool → HasNoFree w (pool_for fields) → ⊥
+has_free v w fields page pool next blank swept its e none =
+    let free = slot_free v page (pool_for fields) (within_next v page next) blank swept (known_pool fields) 0 (has_slot fields) in
     true≢false (sym free ∙ ap (λ w. is_free_at w (pool_for fields) (slot_address page (pool_for fields) 0)) (sym (e ∙ ap (with_page v page) its)) ∙ none (slot_address page (pool_for fields) 0))
 
 -- a birth on the page
-pub born_on_page : (v u w : HeapView) (fields : ℕ) (guard : Guard) (style : Style) (page pool name a : ℕ) → HasNoFree v (pool_for fields) → IsNextPage v page → page_at v page ≡ no_page → pool ≡ pool_for fields → u ≡ with_page v page pool →
+pub born_on_page : (v u w : HeapView) (fields : ℕ) (guard : Guard) (style : Style) (page pool name a : ℕ) → HasNoFree v (pool_for fields) → IsNextPage v page → page_at v page ≡ no_page → is_unswept v page ≡ false → pool ≡ pool_for fields → u ≡ with_page v page pool →
     IsLeastFree u (pool_for fields) a → name ≡ u.counters.born + 1 → w ≡ placed u a (new_object name fields guard style) → IsBirth v w fields guard style name a
-born_on_page v u w fields guard style page pool name a none next blank its e least named becomes = record {
+born_on_page v u w fields guard style page pool name a none next blank swept its e least named becomes = record {
   roomy = u;
-  room = inr (page, record { none_free = none; next = next; blank = blank; becomes = e ∙ ap (with_page v page) its });
+  room = inr (page, record { none_free = none; next = next; blank = blank; swept = swept; becomes = e ∙ ap (with_page v page) its });
   least = least;
   named = named ∙ ap (λ (u : HeapView). u.counters.born + 1) e ∙ ap (λ (c : Counters). c.born + 1) (rest-with_page v page pool).counters;
   becomes = becomes;
 }
-
--- a birth makes one object
-pub one_more_born : (v w : HeapView) (fields : ℕ) (guard : Guard) (style : Style) (name a : ℕ) → IsBirth v w fields guard style name a → w.counters.born ≡ v.counters.born + 1
-one_more_born v w fields guard style name a b =
-    ap (λ (w : HeapView). w.counters.born) b.becomes ∙ born-placed b.roomy a (new_object name fields guard style)
-    ∙ ap (λ n. n + 1) (⊎_elim
-    (λ same. ap (λ (u : HeapView). u.counters.born) same)
-    (λ (page, g). ap (λ (u : HeapView). u.counters.born) g.becomes ∙ ap (λ (c : Counters). c.born) (rest-with_page v page (pool_for fields)).counters)
-    b.room)

@@ -22,6 +22,7 @@ use Rattle.space_model.proofs.MapLaws.{some_get}
 use Rattle.space_model.proofs.StackWords.{slot_address-even, slot_address-some}
 use Rattle.space_model.proofs.ValuesHold.{operand_holds}
 use Rattle.space_model.proofs.ValuesKept.{IsPresentValue, name_present, present_kept}
+use Rattle.space_heap.proofs.MovedLaws.{resolved_unmoved}
 use Rattle.space_heap.specs.Objects.{is_object, object_of, resolved}
 use Rattle.space_engine.specs.Stands.{Holds}
 use Rattle.space_engine.specs.Views.{View}
@@ -51,14 +52,14 @@ module _ (v : View) (s : State) (h : Holds v s) where
       (λ f. f)
       (cases_Bool (is_object v.heap word))
 
-  nothing_at_zero : is_object v.heap 0 ≡ false
+  pub nothing_at_zero : is_object v.heap 0 ≡ false
   nothing_at_zero = nothing_at 0 (λ name e.
       let slot = h.sound.layout.placed.at name 0 e in
       let some = slot_address-some slot.page (pool_of s.graph name) slot.slot in
       let is = slot.is in
       omega (arith, is, some))
 
-  nothing_at_odd : (number : ℕ) → is_object v.heap (2 * number + 1) ≡ false
+  pub nothing_at_odd : (number : ℕ) → is_object v.heap (2 * number + 1) ≡ false
   nothing_at_odd number = nothing_at (2 * number + 1) (λ name e.
       let slot = h.sound.layout.placed.at name (2 * number + 1) e in
       let even : (2 * number + 1) % 2 ≡ 0 = ap (λ (n : ℕ). n % 2) slot.is ∙ slot_address-even slot.page (pool_of s.graph name) slot.slot in
@@ -100,7 +101,7 @@ module _ (v : View) (s : State) (h : Holds v s) where
                 owner = owner;
                 word = ap (λ (r : Result ℕ Refusal). and_then r (λ a. Ok (resolved v.heap (get_or (object_of v.heap a).fields index 0)))) owner
                     ∙ ap Ok (
-                    h.represents.untouched.still (get_or (object_of v.heap address).fields index 0)
+                    resolved_unmoved v.heap (get_or (object_of v.heap address).fields index 0) (h.represents.unmoved.none (get_or (object_of v.heap address).fields index 0))
                     ∙ ap (λ (fields : List ℕ). get_or fields index 0) (h.represents.objects.is name address at).fields
                     ∙ get_or-map (value_word s.heap.place) values index Nil 0 here.1);
               },

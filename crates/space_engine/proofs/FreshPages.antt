@@ -1,8 +1,10 @@
 -- The pages and the free addresses after a pool got a page, since no address was free for it.
-use Rattle.std.proofs.Common.{◌≡◌, ◌≢◌, ℕ, ◌+◌, ◌<◌, ◌≤◌, List, length, cond, ap, ◌∙◌, sym, subst, refl, arith, nat_eq, Option, None, Some, ⊎_elim, inl, inr}
+use Rattle.std.proofs.Common.{◌≡◌, ◌≢◌, ℕ, ◌+◌, ◌<◌, ◌≤◌, List, length, cond, false, ap, ◌∙◌, sym, subst, refl, arith, nat_eq, Option, None, Some, ⊎_elim, inl, inr}
+use Rattle.std.specs.Prelude.{is_some}
+use Rattle.std.specs.Set.{is_member}
 use Rattle.std.specs.Ordering.{nat_cmp}
 use Rattle.std.specs.FinMap.{FinMap, get, empty, get-empty}
-use Rattle.std.proofs.lemmas.Bool.{true≢false, cases_eq, cond-true, cond-false}
+use Rattle.std.proofs.lemmas.Bool.{true≢false, cases_Bool, cases_eq, cond-true, cond-false}
 use Rattle.std.proofs.lemmas.Bool.Decides.{nat_tests}
 use Rattle.std.proofs.lemmas.Grind.{common_steps}
 use Rattle.space_model.specs.Layout.{page_of, page_slots, slot_address}
@@ -68,6 +70,19 @@ module _ (v : View) (s : State) (h : Represents v s) (sound : Sound s) (page poo
       let there : page ≡ slot.page = sym on ∙ ap page_of slot.is ∙ page_of-slot_address slot.page _ slot.slot slot.on_page in
       none_some _ (sym none_there ∙ ap (pool_of_page s.heap.pages) there ∙ slot.has_pool)
 
+  no_corpse_on_page : (name address : ℕ) → page_of address ≡ page → get s.heap.corpses name ≢ Some address
+  no_corpse_on_page name address on e =
+      let slot = sound.corpses.buried.at name address e in
+      let there : page ≡ slot.page = sym on ∙ ap page_of slot.is ∙ page_of-slot_address slot.page _ slot.slot slot.on_page in
+      none_some _ (sym none_there ∙ ap (pool_of_page s.heap.pages) there ∙ slot.has_pool)
+
+  -- the page doesn't wait for a sweep
+  not_unswept : (address : ℕ) → page_of address ≡ page → is_member nat_eq s.heap.unswept (page_of address) ≡ false
+  not_unswept address on = ⊎_elim
+      (λ waits. absurd (true≢false (sym (sound.sweep.have_pools (page_of address) waits) ∙ ap (λ k. is_some (pool_of_page s.heap.pages k)) on ∙ ap is_some none_there)))
+      (λ f. f)
+      (cases_Bool (is_member nat_eq s.heap.unswept (page_of address)))
+
   free_to : (q b : ℕ) → IsFree (paged s pages') q b → IsFreeAt w q b
   free_to q b f =
       let on : page_of b ≡ f.at.page = ap page_of f.at.is ∙ page_of-slot_address f.at.page q f.at.slot f.at.on_page in
@@ -76,7 +91,7 @@ module _ (v : View) (s : State) (h : Represents v s) (sound : Sound s) (page poo
       let here : f.at.page ≡ page = sym on ∙ same in
       let its : q ≡ pool = sym (some_same pool q (sym pool_here ∙ ap (pool_of_page pages') (sym here) ∙ f.at.has_pool)) in
       let is : slot_address page pool f.at.slot ≡ b = ap (λ k. slot_address k pool f.at.slot) (sym here) ∙ ap (λ q. slot_address f.at.page q f.at.slot) (sym its) ∙ sym f.at.is in
-      subst (λ q. IsFreeAt w q b) (sym its) (subst (IsFreeAt w pool) is (slot_free v.heap page pool within g.blank known f.at.slot (subst (λ q. f.at.slot < page_slots q) its f.at.on_page))))
+      subst (λ q. IsFreeAt w q b) (sym its) (subst (IsFreeAt w pool) is (slot_free v.heap page pool within g.blank g.swept known f.at.slot (subst (λ q. f.at.slot < page_slots q) its f.at.on_page))))
       (λ other.
       is_free_at-with_page_other v.heap page pool within g.blank q b other
       ∙ (h.pages.free q b).0 (record {
@@ -97,7 +112,7 @@ module _ (v : View) (s : State) (h : Represents v s) (sound : Sound s) (page poo
   free_from : (q b : ℕ) → IsFreeAt w q b → IsFree (paged s pages') q b
   free_from q b f = ⊎_elim
       (λ on.
-      let i = free_slot_is v.heap page pool within g.blank known q b on f in
+      let i = free_slot_is v.heap page pool within g.blank g.swept known q b on f in
       record {
         at = record {
           page = page;
@@ -106,10 +121,10 @@ module _ (v : View) (s : State) (h : Represents v s) (sound : Sound s) (page poo
           on_page = subst (λ q. i.slot < page_slots q) (sym i.same) i.on_page;
           is = i.is ∙ ap (λ q. slot_address page q i.slot) (sym i.same);
         };
-        swept = rw h.untouched.unswept refl;
+        swept = not_unswept b on;
         no_place = λ name. none_on_page name b on;
-        no_corpse = λ name. nothing_at s.heap.corpses h.untouched.corpses name b;
-        not_left = λ name. nothing_at s.heap.left h.untouched.left name b;
+        no_corpse = λ name. no_corpse_on_page name b on;
+        not_left = λ name. nothing_at s.heap.left h.unmoved.left name b;
       })
       (λ other.
       let was = (h.pages.free q b).1 (sym (is_free_at-with_page_other v.heap page pool within g.blank q b other) ∙ f) in
@@ -144,8 +159,8 @@ module _ (v : View) (s : State) (h : Represents v s) (sound : Sound s) (page poo
       (λ same. same)
       (λ other. absurd (true≢false (sym l.free ∙ is_free_at-with_page_other v.heap page pool within g.blank pool a other ∙ g.none_free a)))
       (cases_eq (page_of a) page) in
-      let i = free_slot_is v.heap page pool within g.blank known pool a on l.free in
-      let low = l.least (slot_address page pool 0) (slot_free v.heap page pool within g.blank known 0 some) in
+      let i = free_slot_is v.heap page pool within g.blank g.swept known pool a on l.free in
+      let low = l.least (slot_address page pool 0) (slot_free v.heap page pool within g.blank g.swept known 0 some) in
       let high = slot_address-rises page pool 0 i.slot (omega arith) in
       let is = i.is in
       (on, omega arith)

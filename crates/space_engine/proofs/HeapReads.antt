@@ -1,9 +1,9 @@
 -- What the heap's answers tell of a word.
 use Rattle.std.proofs.Common.{◌≡◌, ℕ, cond, true, false, ap, ◌∙◌, sym, subst, None, Some, ⊎_elim}
 use Rattle.std.proofs.lemmas.Bool.{cases_Bool, cond-true, cond-false}
-use Rattle.space_heap.specs.HeapView.{Counters, HeapView}
-use Rattle.space_heap.specs.Objects.{stands, is_object, written}
-use Rattle.space_heap.proofs.ObjectLaws.{stands_from_object, rest-with_object}
+use Rattle.space_heap.specs.HeapView.{HeapView}
+use Rattle.space_heap.specs.Objects.{stands, is_object}
+use Rattle.space_heap.proofs.ObjectLaws.{stands_from_object}
 
 -- the word of an object is its address
 pub record IsThere (heap : HeapView) (word address : ℕ) : Type 0 where
@@ -24,7 +24,3 @@ not_there heap word e = ⊎_elim
     (λ (is : is_object heap word ≡ true). let f : None ≡ Some word = e ∙ cond-true (is_object heap word) (Some word) None is in absurd (cc))
     (λ (none : is_object heap word ≡ false). none)
     (cases_Bool (is_object heap word))
-
--- how many objects were born stays, or is one more
-pub born_stored : (heap : HeapView) (address index word : ℕ) → (written heap address index word).counters.born ≡ heap.counters.born
-born_stored heap address index word = ap (λ (c : Counters). c.born) (rest-with_object heap address _).counters

@@ -5,7 +5,8 @@ use Rattle.std.specs.FinMap.{get-empty}
 use Rattle.space_model.specs.Places.{IsFree}
 use Rattle.space_model.specs.State.{opening}
 use Rattle.space_model.proofs.SoundKept.{Sound-opening}
-use Rattle.space_heap.proofs.EmptyHeaps.{is_object-empty, is_free_at-empty, resolved-empty}
+use Rattle.space_heap.proofs.FreeLaws.{is_moved-empty}
+use Rattle.space_heap.proofs.EmptyHeaps.{stands-empty, is_object-empty, is_free_at-empty}
 use Rattle.space_engine.specs.Stands.{Holds}
 use Rattle.space_engine.specs.Views.{empty_view}
 
@@ -26,10 +27,17 @@ opening_held limit = record {
       limit = refl;
       free = λ pool address. (λ (f : IsFree (opening limit) pool address). absurd (none_some pool f.at.has_pool), λ f. absurd (true≢false (sym f ∙ is_free_at-empty limit pool address)));
     };
-    born = refl;
+    corpses = record {
+      lies = λ name address e. absurd (none_some address (sym (get-empty nat_cmp name) ∙ e));
+      gone = λ name address e. absurd (none_some address (sym (get-empty nat_cmp name) ∙ e));
+      named = λ name address e. absurd (none_some address (sym (get-empty nat_cmp name) ∙ e));
+      only = λ address e f. absurd (true≢false (sym e ∙ stands-empty limit address));
+    };
+    progress = record { phase = refl; unswept = refl; born = refl };
+    unmoved = record { left = refl; none = is_moved-empty limit };
     roots = refl;
     stack = refl;
-    untouched = record { idle = refl; phase = refl; corpses = refl; left = refl; unswept = refl; still = resolved-empty limit };
   };
+  idle = refl;
   sound = Sound-opening limit;
 }

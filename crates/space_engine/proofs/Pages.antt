@@ -5,7 +5,7 @@ use Rattle.space_model.specs.Pages.{pool_at as pool_of_page}
 use Rattle.space_model.specs.Places.{IsFree}
 use Rattle.space_model.specs.State.{State, Heap}
 use Rattle.space_heap.specs.HeapView.{HeapView}
-use Rattle.space_engine.specs.Stands.{HasPages}
+use Rattle.space_engine.specs.Stands.{HasPages, HasProgress, IsUnmoved}
 
 -- the state with these pages
 abbrev pub paged : State → List (Option ℕ) → State
@@ -53,6 +53,18 @@ pages_moved s t heap e h = record {
   limit = ap (λ (own : Heap). own.limit) e ∙ h.limit;
   free = λ pool address. (λ f. (h.free pool address).0 (free_moved t s (sym e) pool address f), λ f. free_moved s t e pool address ((h.free pool address).1 f));
 }
+
+-- a state at the same point, with the same heap and number of objects
+pub progress_moved : (s t : State) (heap : HeapView) → t.heap ≡ s.heap → t.collector.phase ≡ s.collector.phase → length t.graph ≡ length s.graph → HasProgress s heap → HasProgress t heap
+progress_moved s t heap e phase many h = record {
+  phase = h.phase ∙ sym phase;
+  unswept = ap (λ (own : Heap). own.unswept) e ∙ h.unswept;
+  born = h.born ∙ sym many;
+}
+
+-- nothing was moved in a state with the same heap
+pub unmoved_moved : (s t : State) (heap : HeapView) → t.heap ≡ s.heap → IsUnmoved s heap → IsUnmoved t heap
+unmoved_moved s t heap e h = record { left = ap (λ (own : Heap). own.left) e ∙ h.left; none = h.none }
 
 -- pages of the same pools are the same pages
 pub pages_renamed : (s : State) (pages : List (Option ℕ)) (heap : HeapView) → length pages ≡ length s.heap.pages → ((page : ℕ) → pool_of_page pages page ≡ pool_of_page s.heap.pages page) → HasPages s heap → HasPages (paged s pages) heap

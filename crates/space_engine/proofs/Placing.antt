@@ -1,5 +1,5 @@
 -- A birth, on a page that has a free slot or on one that its pool gets.
-use Rattle.std.proofs.Common.{◌≡◌, ◌≢◌, ℕ, zero, suc, ◌+◌, List, [], ◌∷◌, ◌++◌, length, length-append, map, replicate, true, true≢false, ap, ◌∙◌, sym, subst, refl, arith, nat_eq, Option, Some, ⊎_elim}
+use Rattle.std.proofs.Common.{◌≡◌, ◌≢◌, ℕ, zero, suc, ◌+◌, List, [], ◌∷◌, ◌++◌, length, length-append, map, replicate, true, false, true≢false, ap, ◌∙◌, sym, subst, refl, arith, nat_eq, Option, Some, ⊎_elim}
 use Rattle.std.specs.List.{flat_map}
 use Rattle.std.specs.Option.{unwrap_or}
 use Rattle.std.specs.Set.{is_member}
@@ -25,10 +25,11 @@ use Rattle.space_model.proofs.SlotLaws.{item_of-push, item_of-new}
 use Rattle.space_roots.specs.WordRoots.{with_root_word}
 use Rattle.space_heap.specs.Slots.{ObjectView, new_object}
 use Rattle.space_heap.specs.HeapView.{Counters, HeapView}
-use Rattle.space_heap.specs.Objects.{is_object, object_of, resolved, placed}
+use Rattle.space_heap.specs.Objects.{stands, is_object, object_of, is_moved, placed}
 use Rattle.space_heap.specs.FreeSlots.{is_free_at, IsFreeAt}
-use Rattle.space_heap.proofs.ObjectLaws.{is_object-placed_same, is_object-placed_other, object_of-placed_same, object_of-placed_other, is_free_at-placed_same, is_free_at-placed_other, pool_at-placed, count-placed, limit-placed, phase-placed, born-placed, resolved-placed}
-use Rattle.space_engine.specs.Stands.{IsObjectOf, HasObjects, HasPages, Represents}
+use Rattle.space_heap.proofs.FreeLaws.{is_moved-placed}
+use Rattle.space_heap.proofs.ObjectLaws.{stands-placed_other, unswept-placed, is_object-placed_same, is_object-placed_other, object_of-placed_same, object_of-placed_other, is_free_at-placed_same, is_free_at-placed_other, pool_at-placed, count-placed, limit-placed, phase-placed, born-placed}
+use Rattle.space_engine.specs.Stands.{IsObjectOf, HasObjects, HasCorpses, HasPages, Represents}
 use Rattle.space_engine.specs.Views.{View, with_heap, with_root_written}
 use Rattle.space_engine.specs.Words.{word_roots}
 use Rattle.space_engine.proofs.Pages.{paged, pages_moved}
@@ -48,10 +49,12 @@ child_is graph parent name e = e
 -- a heap that an object may be born in: its objects are those of the view, and its pages have these pools
 pub record IsRoomy (v : View) (s : State) (pages : List (Option ℕ)) (heap : HeapView) : Type 0 where
   pub has : HasPages (paged s pages) heap
+  pub standing : (b : ℕ) → stands heap b ≡ stands v.heap b
   pub same : (b : ℕ) → is_object heap b ≡ is_object v.heap b
   pub objects : (b : ℕ) → object_of heap b ≡ object_of v.heap b
-  pub still : (word : ℕ) → resolved heap word ≡ resolved v.heap word
+  pub moved : (b : ℕ) → is_moved heap b ≡ is_moved v.heap b
   pub phase : heap.phase ≡ v.heap.phase
+  pub unswept : heap.unswept ≡ v.heap.unswept
   pub counters : heap.counters ≡ v.heap.counters
 
 module _ (v : View) (s : State) (h : Represents v s) (sound : Sound s) (root : List ℕ) (fields : ℕ) (guard : Guard) (style : Style) (a : ℕ) (pages : List (Option ℕ)) (heap : HeapView) (roomy : IsRoomy v s pages heap) (free : IsFreeAt heap (pool_for fields) a) where
@@ -127,6 +130,23 @@ module _ (v : View) (s : State) (h : Represents v s) (sound : Sound s) (root : L
         (cases_eq b a);
   }
 
+  -- no object stood at the address, gone or not
+  no_corpse : (n b : ℕ) → get s.heap.corpses n ≡ Some b → b ≢ a
+  no_corpse n b e same = ((roomy.has.free (pool_for fields) a).1 free).no_corpse n (e ∙ ap Some same)
+
+  corpses_placed : HasCorpses s.heap.corpses w
+  corpses_placed = record {
+    lies = λ n b e. stands-placed_other heap a object b (no_corpse n b e) ∙ roomy.standing b ∙ h.corpses.lies n b e;
+    gone = λ n b e. is_object-placed_other heap a object b (no_corpse n b e) ∙ roomy.same b ∙ h.corpses.gone n b e;
+    named = λ n b e. ap (λ (o : ObjectView). o.name) (object_of-placed_other heap a object b (no_corpse n b e) ∙ roomy.objects b) ∙ h.corpses.named n b e;
+    only = λ b e f. ⊎_elim
+        (λ same. absurd (true≢false (sym (is_object-placed_same heap (pool_for fields) a object free) ∙ ap (is_object w) (sym same) ∙ f)))
+        (λ other.
+        ap (λ (o : ObjectView). get s.heap.corpses o.name) (object_of-placed_other heap a object b other ∙ roomy.objects b)
+        ∙ h.corpses.only b (sym (roomy.standing b) ∙ sym (stands-placed_other heap a object b other) ∙ e) (sym (roomy.same b) ∙ sym (is_object-placed_other heap a object b other) ∙ f))
+        (cases_eq b a);
+  }
+
   abbrev t : State
   t = record s { heap = record s.heap { place = place'; pages = pages } }
 
@@ -177,18 +197,17 @@ module _ (v : View) (s : State) (h : Represents v s) (sound : Sound s) (root : L
       ∙ with_root_word-word_roots place' s.roots root (Name next)
 
   pub placed_represents : pages ≡ with_pool s.heap.pages (page_of a) (pool_for fields) → Represents (with_root_written (with_heap v w) root a) (noted (born s root fields guard style a))
-  placed_represents e = record {
-    objects = objects_placed;
-    pages = pages_moved t (noted (born s root fields guard style a)) w (ap (λ pages. record s.heap { place = place'; pages = pages }) (sym e)) pages_placed;
-    born = born-placed heap a object ∙ ap (λ (c : Counters). c.born + 1) roomy.counters ∙ ap (λ n. n + 1) h.born ∙ sym (length-append s.graph (new_item guard style fields ∷ []));
-    roots = roots_placed;
-    stack = h.stack;
-    untouched = record {
-      idle = h.untouched.idle;
-      phase = phase-placed heap a object ∙ roomy.phase ∙ h.untouched.phase;
-      corpses = h.untouched.corpses;
-      left = h.untouched.left;
-      unswept = h.untouched.unswept;
-      still = λ word. resolved-placed heap (pool_for fields) a object word free ∙ roomy.still word ∙ h.untouched.still word;
-    };
-  }
+  placed_represents e =
+      record {
+        objects = objects_placed;
+        corpses = corpses_placed;
+        pages = pages_moved t (noted (born s root fields guard style a)) w (ap (λ pages. record s.heap { place = place'; pages = pages }) (sym e)) pages_placed;
+        progress = record {
+          phase = phase-placed heap a object ∙ roomy.phase ∙ h.progress.phase;
+          unswept = h.progress.unswept ∙ sym roomy.unswept ∙ sym (unswept-placed heap a object);
+          born = born-placed heap a object ∙ ap (λ (c : Counters). c.born + 1) roomy.counters ∙ ap (λ n. n + 1) h.progress.born ∙ sym (length-append s.graph (new_item guard style fields ∷ []));
+        };
+        unmoved = record { left = h.unmoved.left; none = λ b. is_moved-placed heap (pool_for fields) a object b free ∙ roomy.moved b ∙ h.unmoved.none b };
+        roots = roots_placed;
+        stack = h.stack;
+      }

@@ -21,6 +21,7 @@ use Rattle.space_model.specs.Words.{IsSmallWord}
 use Rattle.space_model.proofs.StackWords.{named_by-place, named_by-none, word_value-back, word_value-small}
 use Rattle.space_model.proofs.ReachedLaws.{member-names_at}
 use Rattle.space_model.proofs.ValuesKept.{present_kept, small_kept}
+use Rattle.space_heap.proofs.MovedLaws.{resolved_unmoved}
 use Rattle.space_heap.specs.Objects.{is_object, object_of, resolved}
 use Rattle.space_roots.specs.WordRoots.{root_word}
 use Rattle.space_engine.specs.Stands.{Holds}
@@ -102,7 +103,7 @@ module _ (v : View) (s : State) (h : Holds v s) where
       root_gives None r e = absurd (ok_err word NoRoot (sym e))
       root_gives (Some w) r e =
           let has = root_there name (ap is_some r) in
-          let same : w ≡ word = sym (h.represents.untouched.still w) ∙ ok_same (resolved v.heap w) word e in
+          let same : w ≡ word = sym (resolved_unmoved v.heap w (h.represents.unmoved.none w)) ∙ ok_same (resolved v.heap w) word e in
           let value : Some has.0 ≡ found = sym has.1 ∙ root_found name word (r ∙ ap Some same) ∙ sym f in
           rw has.1 (ap (λ (o : Option Value). ok_or o NotObject) value)
   operand_found (Word k) word found e f = rw (h.represents.stack, f) (word_gives (slice_get (reverse v.stack) k) e)

@@ -1,22 +1,36 @@
 -- A step, from the answer and what was written.
-use Rattle.std.proofs.Common.{◌≡◌, List, [], ◌∷◌, ℕ, refl, sym, Option}
+use Rattle.std.proofs.Common.{◌≡◌, List, [], ◌∷◌, ◌++◌, map, ℕ, ◌+◌, refl, sym, ap, ◌∙◌, subst, arith, Option}
 use Rattle.std.specs.Io.KnownBytes.{Appends}
+use Rattle.std.proofs.KnownBytes.{Appends-nil, Appends-trans}
 use Rattle.space_io.specs.Sinks.{AppendsPrefix}
 use Rattle.std.proofs.lemmas.List.{append-nil}
 use Rattle.space_model.specs.declared.command.Command.{Command}
+use Rattle.space_model.specs.declared.event.Event.{Event}
 use Rattle.space_model.specs.declared.reply.Reply.{Reply}
-use Rattle.space_model.specs.declared.reply.Reply.TheVariants.{Made, Full, NoMemory, Done, Pushed, Read, Truth, Refused}
+use Rattle.space_model.specs.declared.reply.Reply.TheVariants.{Made, Full, NoMemory, Done, Pushed, Read, Truth, Scanned, Refused}
 use Rattle.space_model.specs.Lawful.{Lawful}
-use Rattle.space_model.specs.Outputs.{Output, Replied}
+use Rattle.space_model.specs.Outputs.{Output, Told, Replied}
 use Rattle.space_model.specs.Sound.{IsGivenSmall}
 use Rattle.space_model.specs.Spelling.{IsSpelled}
 use Rattle.space_model.specs.State.{State}
-use Rattle.space_model.specs.Texts.{text_of, reply_pieces, line_of_pieces}
+use Rattle.space_model.specs.Texts.{text_of, reply_pieces, line_of_pieces, AreSpelled}
 use Rattle.space_model.proofs.SoundKept.{lawful_sound}
-use Rattle.space_engine.specs.Counting.{reply_counts, counts_of}
+use Rattle.space_engine.specs.declared.counts.Counts.{Counts}
+use Rattle.space_engine.specs.Answered.{IsLawfulAnswer, IsAnswered, IsCutOff}
+use Rattle.space_engine.specs.Counting.{no_counts, reply_counts, output_counts, sum_of_counts, counts_of}
 use Rattle.space_engine.specs.Stands.{Holds}
 use Rattle.space_engine.specs.Steps.{Answers, Steps}
-use Rattle.space_engine.specs.Views.{SpaceView}
+use Rattle.space_engine.specs.Views.{View, SpaceView}
+use Rattle.space_engine.proofs.ToldLines.{text_of-append, prefix_after, prefix_longer}
+
+-- a command without events
+pub answered_quietly : (old new : View) (command : Command) (reply : Reply) (known : Option (List ℕ)) → ((s : State) → Holds old s → Answers s new command reply) → IsAnswered old new command reply 0 known known
+answered_quietly old new command reply known answer = record {
+  events = [];
+  lawful = record { answers = answer; spelled = λ s h. tt };
+  counted = refl;
+  written = Appends-nil known;
+}
 
 -- the counts of an only reply are its own
 counts_of_one : (reply : Reply) → counts_of (Replied reply ∷ []) ≡ reply_counts reply
@@ -27,25 +41,90 @@ counts_of_one Done = refl
 counts_of_one (Pushed word names) = refl
 counts_of_one (Read value) = refl
 counts_of_one (Truth told) = refl
+counts_of_one (Scanned count) = refl
 counts_of_one (Refused why) = refl
 
-module _ (old new : SpaceView) (command : Command) (reply : Reply) (can : IsGivenSmall command) (answer : (s : State) → Holds old.parts s → Answers s new.parts command reply) (spelled : IsSpelled (reply_pieces reply)) where
-  steps : (IsSo : List Output → Type 0) → IsSo (Replied reply ∷ []) → Steps old new command IsSo
-  steps IsSo so s h =
-      let a = answer s h in
-      let lawful : Lawful s command (Replied reply ∷ []) a.state = record { events = []; reply = reply; outputs_are = refl; effects = a.effects } in
+plus_none : (a : ℕ) → 0 + a ≡ a
+plus_none a = omega arith
+
+plus_assoc : (a b c : ℕ) → a + b + c ≡ a + (b + c)
+plus_assoc a b c = omega arith
+
+sum_none : (a : Counts) → sum_of_counts no_counts a ≡ a
+sum_none a = λ i. record {
+  objects = plus_none a.objects i;
+  gone = plus_none a.gone i;
+  moves = plus_none a.moves i;
+  finals = plus_none a.finals i;
+  full = plus_none a.full i;
+  errors = plus_none a.errors i;
+  no_memory = plus_none a.no_memory i;
+}
+
+sum_assoc : (a b c : Counts) → sum_of_counts (sum_of_counts a b) c ≡ sum_of_counts a (sum_of_counts b c)
+sum_assoc a b c = λ i. record {
+  objects = plus_assoc a.objects b.objects c.objects i;
+  gone = plus_assoc a.gone b.gone c.gone i;
+  moves = plus_assoc a.moves b.moves c.moves i;
+  finals = plus_assoc a.finals b.finals c.finals i;
+  full = plus_assoc a.full b.full c.full i;
+  errors = plus_assoc a.errors b.errors c.errors i;
+  no_memory = plus_assoc a.no_memory b.no_memory c.no_memory i;
+}
+
+counts_of-append : (xs ys : List Output) → counts_of (xs ++ ys) ≡ sum_of_counts (counts_of xs) (counts_of ys)
+counts_of-append [] ys = sym (sum_none (counts_of ys))
+counts_of-append (x ∷ xs) ys = ap (sum_of_counts (output_counts x)) (counts_of-append xs ys) ∙ sym (sum_assoc (output_counts x) (counts_of xs) (counts_of ys))
+
+AreSpelled-append : (xs ys : List Output) → AreSpelled xs → AreSpelled ys → AreSpelled (xs ++ ys)
+AreSpelled-append [] ys first second = second
+AreSpelled-append (x ∷ xs) ys first second = (first.0, AreSpelled-append xs ys first.1 second)
+
+module _ (events : List Event) (reply : Reply) where
+  abbrev outputs : List Output
+  outputs = map Told events ++ Replied reply ∷ []
+
+  abbrev line : List ℕ
+  line = line_of_pieces (reply_pieces reply)
+
+  -- the lines of the events, and then that of the reply
+  outputs_text : text_of outputs ≡ text_of (map Told events) ++ line
+  outputs_text = text_of-append (map Told events) (Replied reply ∷ []) ∙ ap (λ xs. text_of (map Told events) ++ xs) (append-nil line)
+
+  outputs_counts : (gone : ℕ) → counts_of (map Told events) ≡ record no_counts { gone = gone } → sum_of_counts (record no_counts { gone = gone }) (reply_counts reply) ≡ counts_of outputs
+  outputs_counts gone counted =
+      sym (ap (sum_of_counts (record no_counts { gone = gone })) (counts_of_one reply))
+      ∙ ap (λ c. sum_of_counts c (counts_of (Replied reply ∷ []))) (sym counted)
+      ∙ sym (counts_of-append (map Told events) (Replied reply ∷ []))
+
+  steps : (old new : SpaceView) (command : Command) → IsGivenSmall command → IsLawfulAnswer old.parts new.parts command events reply → IsSpelled (reply_pieces reply) → (IsSo : List Output → Type 0) → IsSo outputs → Steps old new command IsSo
+  steps old new command can answer spelled IsSo so s h =
+      let a = answer.answers s h in
+      let lawful : Lawful s command outputs a.state = record { events = events; reply = reply; outputs_are = refl; effects = a.effects } in
       record {
-        outputs = Replied reply ∷ [];
+        outputs = outputs;
         state = a.state;
-        stands = record { represents = a.represents; sound = lawful_sound s a.state command (Replied reply ∷ []) can lawful h.sound };
+        stands = record { represents = a.represents; idle = a.idle; sound = lawful_sound s a.state command outputs can lawful h.sound };
         lawful = lawful;
-        spelled = (spelled, tt);
+        spelled = AreSpelled-append (map Told events) (Replied reply ∷ []) (answer.spelled s h) (spelled, tt);
         so = so;
       }
 
-  pub steps_done : (before after : Option (List ℕ)) → Appends before after (line_of_pieces (reply_pieces reply)) →
-      Steps old new command (λ outputs. (reply_counts reply ≡ counts_of outputs) × Appends before after (text_of outputs))
-  steps_done before after written = steps _ (sym (counts_of_one reply), rw append-nil written)
+module _ (old new : SpaceView) (command : Command) (can : IsGivenSmall command) where
+  pub steps_done : (reply : Reply) (gone : ℕ) (before middle after : Option (List ℕ)) → IsAnswered old.parts new.parts command reply gone before middle → IsSpelled (reply_pieces reply) → Appends middle after (line_of_pieces (reply_pieces reply)) →
+      Steps old new command (λ outputs. (sum_of_counts (record no_counts { gone = gone }) (reply_counts reply) ≡ counts_of outputs) × Appends before after (text_of outputs))
+  steps_done reply gone before middle after a spelled written = steps a.events reply old new command can a.lawful spelled _ (
+    outputs_counts a.events reply gone a.counted,
+    subst (Appends before after) (sym (outputs_text a.events reply)) (Appends-trans before middle after (text_of (map Told a.events)) (line_of_pieces (reply_pieces reply)) a.written written),
+  )
 
-  pub steps_fault : (before after : Option (List ℕ)) → AppendsPrefix before after (line_of_pieces (reply_pieces reply)) → Steps old new command (λ outputs. AppendsPrefix before after (text_of outputs))
-  steps_fault before after written = steps _ (rw append-nil written)
+  -- the reply was cut off
+  pub steps_fault : (reply : Reply) (gone : ℕ) (before middle after : Option (List ℕ)) → IsAnswered old.parts new.parts command reply gone before middle → IsSpelled (reply_pieces reply) → AppendsPrefix middle after (line_of_pieces (reply_pieces reply)) →
+      Steps old new command (λ outputs. AppendsPrefix before after (text_of outputs))
+  steps_fault reply gone before middle after a spelled prefix = steps a.events reply old new command can a.lawful spelled _
+      (subst (AppendsPrefix before after) (sym (outputs_text a.events reply)) (prefix_after before middle after (text_of (map Told a.events)) (line_of_pieces (reply_pieces reply)) a.written prefix))
+
+  -- the events were cut off
+  pub steps_cut : (before after : Option (List ℕ)) → IsCutOff old.parts new.parts command before after → Steps old new command (λ outputs. AppendsPrefix before after (text_of outputs))
+  steps_cut before after a = steps a.events a.reply old new command can a.lawful a.reply_spelled _
+      (subst (AppendsPrefix before after) (sym (outputs_text a.events a.reply)) (prefix_longer before after (text_of (map Told a.events)) (line_of_pieces (reply_pieces a.reply)) a.prefix))

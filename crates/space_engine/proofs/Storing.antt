@@ -13,8 +13,9 @@ use Rattle.space_model.specs.State.{State}
 use Rattle.space_heap.specs.Slots.{ObjectView}
 use Rattle.space_heap.specs.HeapView.{HeapView, Counters}
 use Rattle.space_heap.specs.Objects.{object_of, written}
-use Rattle.space_heap.proofs.ObjectLaws.{stands_from_object, object_of-with_object_same, object_of-with_object_other, stays, is_object-with_object, is_free_at-with_object, pool_at-with_object, count-with_object, resolved-with_object, rest-with_object}
-use Rattle.space_engine.specs.Stands.{IsObjectOf, HasObjects, HasPages, Represents}
+use Rattle.space_heap.proofs.FreeLaws.{is_moved-with_object}
+use Rattle.space_heap.proofs.ObjectLaws.{stands_from_object, stands-with_object, object_of-with_object_same, object_of-with_object_other, stays, is_object-with_object, is_free_at-with_object, pool_at-with_object, count-with_object, rest-with_object}
+use Rattle.space_engine.specs.Stands.{IsObjectOf, HasObjects, HasCorpses, HasPages, Represents}
 use Rattle.space_engine.specs.Views.{View, with_field}
 use Rattle.space_engine.proofs.Pages.{pages_moved}
 
@@ -85,21 +86,29 @@ module _ (v : View) (s : State) (h : Represents v s) (sound : Sound s) (name add
     );
   }
 
+  corpses_stored : HasCorpses s.heap.corpses w
+  corpses_stored = record {
+    lies = λ n b e. stands-with_object v.heap address object b ∙ h.corpses.lies n b e;
+    gone = λ n b e. is_object-with_object v.heap address object b refl ∙ h.corpses.gone n b e;
+    named = λ n b e. stays (λ (o : ObjectView). o.name) v.heap address object b refl ∙ h.corpses.named n b e;
+    only = λ b e f.
+        ap (get s.heap.corpses) (stays (λ (o : ObjectView). o.name) v.heap address object b refl)
+        ∙ h.corpses.only b (sym (stands-with_object v.heap address object b) ∙ e) (sym (is_object-with_object v.heap address object b refl) ∙ f);
+  }
+
   pub stored_represents : Represents (with_field v address index word) (noted (stored s name index value))
   stored_represents =
       let rest = rest-with_object v.heap address object in
       record {
         objects = objects_stored;
+        corpses = corpses_stored;
         pages = pages_moved s (noted (stored s name index value)) w refl pages_stored;
-        born = ap (λ (c : Counters). c.born) rest.counters ∙ h.born ∙ sym (length-set s.graph (name - 1) (item_stored (item_of s.graph name) index value));
+        progress = record {
+          phase = rest.phase ∙ h.progress.phase;
+          unswept = h.progress.unswept ∙ sym rest.unswept;
+          born = ap (λ (c : Counters). c.born) rest.counters ∙ h.progress.born ∙ sym (length-set s.graph (name - 1) (item_stored (item_of s.graph name) index value));
+        };
+        unmoved = record { left = h.unmoved.left; none = λ b. is_moved-with_object v.heap address object b ∙ h.unmoved.none b };
         roots = h.roots;
         stack = h.stack;
-        untouched = record {
-          idle = h.untouched.idle;
-          phase = rest.phase ∙ h.untouched.phase;
-          corpses = h.untouched.corpses;
-          left = h.untouched.left;
-          unswept = h.untouched.unswept;
-          still = λ word. resolved-with_object v.heap address object word ∙ h.untouched.still word;
-        };
       }

@@ -1,9 +1,9 @@
 -- The heap after a birth.
-use Rattle.std.specs.Prelude.{◌≡◌, ◌⊎◌, ℕ, ◌+◌, List}
+use Rattle.std.specs.Prelude.{◌≡◌, false, ◌⊎◌, ℕ, ◌+◌, List}
 use Rattle.space_model.specs.declared.object.Guard.{Guard}
 use Rattle.space_model.specs.declared.object.Style.{Style}
 use Rattle.space_model.specs.Layout.{pool_for}
-use Rattle.space_heap.specs.HeapView.{HeapView, no_page, page_at, with_page}
+use Rattle.space_heap.specs.HeapView.{HeapView, no_page, page_at, is_unswept, with_page}
 use Rattle.space_heap.specs.Slots.{new_object}
 use Rattle.space_heap.specs.Objects.{placed}
 use Rattle.space_heap.specs.FreeSlots.{IsLeastFree, HasNoFree}
@@ -15,6 +15,7 @@ pub record GetsPage (v w : HeapView) (pool page : ℕ) : Type 0 where
   pub none_free : HasNoFree v pool
   pub next : IsNextPage v page
   pub blank : page_at v page ≡ no_page
+  pub swept : is_unswept v page ≡ false
   pub becomes : w ≡ with_page v page pool
 
 -- the heap is as it was, or the pool got a page since no address was free for it

@@ -1,7 +1,7 @@
 -- What the fields of a space stand for.
-use Rattle.std.specs.Prelude.{◌≤◌}
 use Rattle.space_engine.specs.declared.engine.Engine.TheInside.{Inside as EngineInside}
 use Rattle.space_engine.specs.declared.space.Space.TheInside.{Inside as SpaceInside}
+use Rattle.space_engine.specs.Tidy.{IsWithinTurns}
 use Rattle.space_engine.specs.Views.{View, SpaceView}
 
 abbrev pub view_of : EngineInside → View
@@ -10,6 +10,6 @@ view_of a = record { heap = a.heap; roots = a.roots; stack = a.stack }
 abbrev pub space_of : SpaceInside → SpaceView
 space_of a = record { parts = a.engine; turns = a.turns; is_spent = a.is_spent }
 
--- a command makes one object at most
+-- the heap is as it may be after so many commands
 abbrev pub IsWithin : SpaceInside → Type 0
-IsWithin a = a.engine.heap.counters.born ≤ a.turns
+IsWithin a = IsWithinTurns a.engine.heap a.turns

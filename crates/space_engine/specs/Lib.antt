@@ -2,6 +2,11 @@ pub mod Views
 pub mod Inside
 pub mod Births
 pub mod Words
+pub mod GoneNames
+pub mod AllSwept
+pub mod Tidy
+pub mod HeapCollections
 pub mod Stands
 pub mod Counting
 pub mod Steps
+pub mod Answered

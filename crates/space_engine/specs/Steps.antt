@@ -1,6 +1,8 @@
 -- What a step of the space does.
-use Rattle.std.specs.Prelude.{List, []}
+use Rattle.std.specs.Prelude.{◌≡◌, List, []}
 use Rattle.space_model.specs.declared.command.Command.{Command}
+use Rattle.space_model.specs.declared.event.Event.{Event}
+use Rattle.space_model.specs.declared.phase.Phase.TheVariants.{Idle}
 use Rattle.space_model.specs.declared.reply.Reply.{Reply}
 use Rattle.space_model.specs.Lawful.{Effects, Lawful}
 use Rattle.space_model.specs.Outputs.{Output}
@@ -9,11 +11,16 @@ use Rattle.space_model.specs.Texts.{AreSpelled}
 use Rattle.space_engine.specs.Views.{View, SpaceView}
 use Rattle.space_engine.specs.Stands.{Represents, Stands}
 
--- the reply is lawful, without events, and the view has what the state after it has
-pub record Answers (s : State) (new : View) (command : Command) (reply : Reply) : Type 0 where
+-- the events and the reply are lawful, the view has what the state after them has, and nothing is under way there
+pub record AnswersWith (s : State) (new : View) (command : Command) (events : List Event) (reply : Reply) : Type 0 where
   pub state : State
   pub represents : Represents new state
-  pub effects : Effects s command [] reply state
+  pub idle : state.collector.phase ≡ Idle
+  pub effects : Effects s command events reply state
+
+-- the same, without events
+abbrev pub Answers : State → View → Command → Reply → Type 0
+Answers s new command reply = AnswersWith s new command [] reply
 
 -- the outputs of the command are lawful, the space stands for the state after them, and this is so of the outputs
 pub record StepsFrom (s : State) (new : SpaceView) (command : Command) (IsSo : List Output → Type 0) : Type 0 where

@@ -1,6 +1,6 @@
 // What is counted of the outputs of a command.
 ghost use Rattle.std.specs.Prelude.{◌≡◌};
-ghost use Rattle.space_engine.specs.Counting.{reply_counts};
+ghost use Rattle.space_engine.specs.Counting.{no_counts, reply_counts, sum_of_counts};
 
 use space_model::Reply;
 
@@ -34,8 +34,8 @@ const NONE: Counts = Counts {
     no_memory: 0,
 };
 
-/// What is counted of a reply.
-pub fn counts_of_reply(reply: &Reply) -> Counts
+// What is counted of a reply.
+fn counts_of_reply(reply: &Reply) -> Counts
     ensures { result ≡ reply_counts reply.now }
 {
     match reply {
@@ -47,5 +47,15 @@ pub fn counts_of_reply(reply: &Reply) -> Counts
         },
         Reply::Refused { .. } => Counts { errors: 1, ..NONE },
         _ => NONE,
+    }
+}
+
+/// What is counted of a reply and of so many gone objects.
+pub fn counts_of_answer(reply: &Reply, gone: u64) -> Counts
+    ensures { result ≡ sum_of_counts (record no_counts { gone = gone }) (reply_counts reply.now) }
+{
+    Counts {
+        gone,
+        ..counts_of_reply(reply)
     }
 }

@@ -2,10 +2,13 @@
 #![tactic(auto)]
 
 mod births;
+mod collecting;
 mod counts;
 mod engine;
 mod operands;
 mod space;
+mod sweeping;
+mod telling;
 #[cfg(test)]
 mod tests;
 

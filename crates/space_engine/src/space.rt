@@ -11,7 +11,7 @@ ghost use Rattle.space_engine.specs.Stands.{Stands};
 ghost use Rattle.space_engine.specs.Steps.{Steps as LawfulSteps};
 ghost use Rattle.space_engine.specs.Views.{empty_space};
 
-use crate::counts::{Counts, counts_of_reply};
+use crate::counts::{Counts, counts_of_answer};
 use crate::engine::Engine;
 use space_io::Sink;
 use space_model::{Command, Ledger, Phase, Steps};
@@ -97,9 +97,15 @@ impl Space {
         ensures steps { (steps.old ≤ steps.new) × (steps.new < steps.old + 2 ^ 26) }
     {
         self.turns += 1;
-        let reply = self.engine.answer(command, steps);
-        match write_reply(&reply, sink) {
-            Ok(()) => Ok(counts_of_reply(&reply)),
+        let answer = match self.engine.answer(command, sink, steps) {
+            Ok(answer) => answer,
+            Err(_) => {
+                self.is_spent = true;
+                return Err(StepFault::WriteFault);
+            }
+        };
+        match write_reply(&answer.reply, sink) {
+            Ok(()) => Ok(counts_of_answer(&answer.reply, answer.gone)),
             Err(_) => {
                 self.is_spent = true;
                 Err(StepFault::WriteFault)

@@ -4,22 +4,23 @@ use Rattle.std.specs.Prelude.{is_some}
 use Rattle.std.proofs.lemmas.Bool.{cases_eq, cond-true}
 use Rattle.std.proofs.lemmas.List.{get_or-set_same, get_or-set_other, length-set}
 use Rattle.std.proofs.lemmas.List.FromFn.{fill_by_all}
-use Rattle.space_model.specs.declared.phase.Phase.{Phase}
 use Rattle.space_model.specs.declared.object.Guard.{Guard}
 use Rattle.space_model.specs.Layout.{page_of}
 use Rattle.space_planes.specs.Planes.{bit}
 use Rattle.space_planes.proofs.Bits.{bit-set_other}
 use Rattle.space_pools.specs.PoolsView.{PoolsView, page_at, pool_at, found_at, with_slot_at}
 use Rattle.space_pools.proofs.Places.{page_within}
-use Rattle.space_pools.proofs.PoolLaws.{length-with_slot_at, pool_at-with_slot_at, slots_at-with_slot_at, found_at-with_slot_at_same, found_at-with_slot_at_other}
+use Rattle.space_pools.proofs.PoolLaws.{length-with_slot_at, pool_at-with_slot_at, unswept_at-with_slot_at, slots_at-with_slot_at, found_at-with_slot_at_same, found_at-with_slot_at_other}
 use Rattle.space_heap.specs.declared.marks.Marks.{Marks}
+use Rattle.space_heap.specs.declared.marks.Traits.{Traits}
 use Rattle.space_heap.specs.Slots.{SlotView}
 use Rattle.space_heap.specs.HeapView.{PageView, HeapView, no_page, page_with, slot_number, is_slot, with_slot_in, with_slot}
 use Rattle.space_heap.specs.MarkPlanes.{marks_at, clear_marks, AreWide, slot_from, taken_from, traits_from, born_marks, guard_from, colour_from, age_from, is_unprotected}
 use Rattle.space_heap.specs.SlotPlaces.{IsSlotAt, SlotChanged}
-use Rattle.space_heap.specs.Inside.{slot_in, page_in, pages_from, view_with, FitsSlot, AreMarksOf, AreAllMarks}
+use Rattle.space_heap.specs.Inside.{slot_in, page_in, pages_from, view_with, FitsSlot, AreMarksOf, AreAllMarks, Rest}
 use Rattle.space_heap.proofs.Views.{length-pages_from, page_read, is_slot_read, page_changed, same_page}
 use Rattle.space_heap.proofs.Readers.{slot_within}
+use Rattle.space_heap.proofs.Unswept.{same_unswept}
 
 pub slot_changed : (v : PoolsView) (page slot : ℕ) (found : Option (List ℕ)) → slot < length (page_at v page).slots → SlotChanged v (with_slot_at v page slot found) page slot found
 slot_changed v page slot found within = record {
@@ -27,6 +28,7 @@ slot_changed v page slot found within = record {
   count = length-with_slot_at v page slot found;
   pools = pool_at-with_slot_at v page slot found;
   slots = slots_at-with_slot_at v page slot found;
+  unswept = unswept_at-with_slot_at v page slot found;
   here = found_at-with_slot_at_same v page slot found within;
   other = found_at-with_slot_at_other v page slot found;
 }
@@ -40,6 +42,7 @@ changed_again v w page slot once found h within =
       count = g.count ∙ h.count;
       pools = λ k. g.pools k ∙ h.pools k;
       slots = λ k. g.slots k ∙ h.slots k;
+      unswept = λ k. g.unswept k ∙ h.unswept k;
       here = g.here;
       other = λ k i differ. g.other k i differ ∙ h.other k i differ;
     }
@@ -69,6 +72,7 @@ fits_same found m n s h f = record {
   object = h.object ∙ f.object ∙ ap (λ b. is_some found && not b) (sym h.moved);
   moved = λ e. f.moved (sym h.moved ∙ e);
   words = λ words e stays. f.words words e (sym h.moved ∙ stays);
+  dead = λ e. h.object ∙ f.dead (sym (ap (λ (t : Traits). t.gone) h.traits) ∙ e);
 }
 
 module _ (v w : PoolsView) (ms ns : List Marks) (page slot : ℕ) (found : Option (List ℕ)) (h : SlotChanged v w page slot found) (g : MarksChanged ms ns page slot) where
@@ -97,12 +101,12 @@ module _ (v w : PoolsView) (ms ns : List Marks) (page slot : ℕ) (found : Optio
       (cases_eq k page))
 
   -- the view after the slot changed
-  pub view_changed : (born : ℕ) (phase : Phase) (a : ℕ) → IsSlotAt v a page slot → with_slot (view_with v ms born phase) a (slot_from found (marks_at ns page) slot) ≡ view_with w ns born phase
+  pub view_changed : (rest : Rest) (a : ℕ) → IsSlotAt v a page slot → with_slot (view_with v ms rest) a (slot_from found (marks_at ns page) slot) ≡ view_with w ns rest
   unfolding with_slot
-  view_changed born phase a at =
-      let x : HeapView = view_with v ms born phase in
+  view_changed rest a at =
+      let x : HeapView = view_with v ms rest in
       let t : SlotView = slot_from found (marks_at ns page) slot in
-      let some : is_slot x a ≡ true = is_slot_read v ms born phase a ∙ at.is in
+      let some : is_slot x a ≡ true = is_slot_read v ms rest a ∙ at.is in
       let read : page_with x a ≡ page_in v ms page = page_read v ms (page_of a) ∙ ap (page_in v ms) (sym at.on_page) in
       let pages : set (pages_from v ms) (page_of a) (with_slot_in (page_with x a) (slot_number (page_with x a).pool a) t) ≡ pages_from w ns =
       ap (λ (p : PageView). set (pages_from v ms) (page_of a) (with_slot_in p (slot_number p.pool a) t)) read
@@ -110,7 +114,7 @@ module _ (v w : PoolsView) (ms ns : List Marks) (page slot : ℕ) (found : Optio
       ∙ ap (λ k. set (pages_from v ms) k (with_slot_in (page_in v ms page) slot t)) (sym at.on_page)
       ∙ pages_changed (slot_within v a page slot at) in
       cond-true (is_slot x a) (record x { pages = set (pages_from v ms) (page_of a) (with_slot_in (page_with x a) (slot_number (page_with x a).pool a) t) }) x some
-      ∙ (λ i. record x { limit = sym h.limit i; pages = pages i })
+      ∙ (λ i. record x { limit = sym h.limit i; pages = pages i; unswept = sym (same_unswept v w h.count h.unswept) i })
 
   this_fits : AreAllMarks v ms → FitsSlot found (marks_at ns page) slot → (s : ℕ) → FitsSlot (found_at w page s) (marks_at ns page) s
   this_fits all fit s = ⊎_elim

@@ -86,7 +86,7 @@ pub slot_at_none : (v : HeapView) (a : ℕ) → is_slot v a ≡ false → slot_a
 unfolding slot_at
 slot_at_none v a none = cond-false (is_slot v a) _ Free none
 
-slot_at_some : (v : HeapView) (a : ℕ) → is_slot v a ≡ true → slot_at v a ≡ get_or (page_with v a).slots (slot_number (page_with v a).pool a) Free
+pub slot_at_some : (v : HeapView) (a : ℕ) → is_slot v a ≡ true → slot_at v a ≡ get_or (page_with v a).slots (slot_number (page_with v a).pool a) Free
 unfolding slot_at
 slot_at_some v a some = cond-true (is_slot v a) _ Free some
 

@@ -5,6 +5,7 @@ mod Readers
 mod Here
 pub mod Laws
 pub mod ObjectLaws
+mod Unswept
 mod FreeReads
 mod WordLaws
 mod Changes
@@ -16,4 +17,25 @@ pub mod NewPageLaws
 pub mod NewPageSlots
 pub mod EmptyHeaps
 mod FirstSlots
+mod NextNamed
 mod NextObjects
+mod GoneObjects
+pub mod GoneCounts
+pub mod NumberLists
+pub mod MarkingLaws
+pub mod Coherence
+mod SlotCounts
+mod PaintedSlots
+mod UnmarkedSlots
+pub mod SettledLaws
+pub mod SweptLaws
+pub mod FreeLaws
+pub mod PhaseLaws
+pub mod MovedLaws
+pub mod SlotAddresses
+pub mod FreedCounts
+mod SoundViews
+pub mod SweptPages
+pub mod GoneLaws
+mod SettledSlots
+mod SweptSlots

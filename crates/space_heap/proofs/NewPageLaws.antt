@@ -1,11 +1,12 @@
 -- The laws of a new page, for the callers: objects and free addresses after a pool got a page.
-use Rattle.std.proofs.Common.{◌≡◌, ◌≢◌, ⊎_elim, ℕ, zero, suc, ◌≤◌, Bool, true, false, cond, length, replicate, get_or, refl, sym, ap, ◌∙◌, nat_eq, arith, None, Some, ◌&&◌}
+use Rattle.std.proofs.Common.{◌≡◌, ◌≢◌, ⊎_elim, ℕ, zero, suc, ◌≤◌, Bool, true, false, cond, length, replicate, get_or, refl, sym, ap, ◌∙◌, nat_eq, arith, None, Some, not, ◌&&◌}
+use Rattle.std.specs.Set.{is_member}
 use Rattle.std.proofs.lemmas.Bool.{cases_eq, cond-true, cond-false}
 use Rattle.std.proofs.lemmas.Bool.Decides.{nat_tests}
 use Rattle.std.proofs.lemmas.List.{length-replicate}
 use Rattle.space_model.specs.Layout.{page_of, page_slots}
 use Rattle.space_heap.specs.Slots.{is_free, SlotView, Free, has_object, has_present, object_in, moved_in}
-use Rattle.space_heap.specs.HeapView.{pool_with, PageView, HeapView, no_page, page_at, page_with, is_start, slot_number, is_slot, slot_at, free_page, with_page}
+use Rattle.space_heap.specs.HeapView.{pool_with, PageView, HeapView, no_page, page_at, page_with, is_start, slot_number, is_slot, is_unswept, slot_at, free_page, with_page}
 use Rattle.space_heap.specs.Objects.{stands, is_object, object_of, resolved}
 use Rattle.space_heap.specs.FreeSlots.{is_pool, is_free_at}
 use Rattle.space_heap.proofs.NewPages.{page_at-with_page}
@@ -17,10 +18,10 @@ page_other : (v : HeapView) (page pool k : ℕ) → page ≤ length v.pages → 
 page_other v page pool k h differ = page_at-with_page v page pool k h ∙ cond-false (nat_eq k page) (free_page pool) (page_at v k) (grind (arith, nat_tests))
 
 -- a slot by its page alone
-abbrev slot_on : PageView → ℕ → SlotView
+abbrev pub slot_on : PageView → ℕ → SlotView
 slot_on p a = cond (is_start p.pool (length p.slots) a) (get_or p.slots (slot_number p.pool a) Free) Free
 
-slot_at_on : (v : HeapView) (a : ℕ) → slot_at v a ≡ slot_on (page_with v a) a
+pub slot_at_on : (v : HeapView) (a : ℕ) → slot_at v a ≡ slot_on (page_with v a) a
 unfolding slot_at is_slot
 slot_at_on v a = refl
 
@@ -29,7 +30,7 @@ all_free zero i = refl
 all_free (suc n) zero = refl
 all_free (suc n) (suc i) = all_free n i
 
-both_free : (b : Bool) (s : SlotView) → s ≡ Free → cond b s Free ≡ Free
+pub both_free : (b : Bool) (s : SlotView) → s ≡ Free → cond b s Free ≡ Free
 both_free true s e = e
 both_free false s e = refl
 
@@ -72,13 +73,19 @@ module _ (v : HeapView) (page pool : ℕ) (within : page ≤ length v.pages) (bl
   unfolding is_slot
   is_slot_other a other = ap (λ (p : PageView). is_start p.pool (length p.slots) a) (page_other v page pool (page_of a) within other)
 
+  -- a page that is new waits for no sweep, and the others wait or not as before
+  pub unswept-with_page : w.unswept ≡ v.unswept
+  unfolding with_page
+  unswept-with_page = refl
+
   -- free addresses of other pages stay
   pub is_free_at-with_page_other : (q a : ℕ) → page_of a ≢ page → is_free_at w q a ≡ is_free_at v q a
   unfolding is_free_at
   is_free_at-with_page_other q a other =
-      ap (λ x. x && (is_pool (pool_with w a) q && is_free (slot_at w a))) (is_slot_other a other)
-      ∙ ap (λ x. is_slot v a && (is_pool x q && is_free (slot_at w a))) (pool_other a other)
-      ∙ ap (λ s. is_slot v a && (is_pool (pool_with v a) q && is_free s)) (slot_at-with_page a)
+      ap (λ x. x && (is_pool (pool_with w a) q && (is_free (slot_at w a) && not (is_unswept w (page_of a))))) (is_slot_other a other)
+      ∙ ap (λ x. is_slot v a && (is_pool x q && (is_free (slot_at w a) && not (is_unswept w (page_of a))))) (pool_other a other)
+      ∙ ap (λ s. is_slot v a && (is_pool (pool_with v a) q && (is_free s && not (is_unswept w (page_of a))))) (slot_at-with_page a)
+      ∙ ap (λ x. is_slot v a && (is_pool (pool_with v a) q && (is_free (slot_at v a) && not (is_member nat_eq x (page_of a))))) unswept-with_page
 
   pool_same : (a : ℕ) → page_of a ≡ page → pool_with w a ≡ Some pool
   unfolding pool_with
@@ -96,10 +103,11 @@ module _ (v : HeapView) (page pool : ℕ) (within : page ≤ length v.pages) (bl
       slot_at_on w a ∙ ap (λ k. slot_on (page_at w k) a) same ∙ ap (λ p. slot_on p a) (page_here v page pool within)
       ∙ both_free _ _ (all_free (page_slots pool) (slot_number (Some pool) a))
 
-  -- all slots of the page are free, for its pool alone
-  pub is_free_at-with_page_same : (q a : ℕ) → page_of a ≡ page → is_free_at w q a ≡ (is_start (Some pool) (page_slots pool) a && (nat_eq pool q && true))
+  -- all slots of the page are free, for its pool alone, where it didn't wait for a sweep
+  pub is_free_at-with_page_same : (q a : ℕ) → page_of a ≡ page → is_unswept v page ≡ false → is_free_at w q a ≡ (is_start (Some pool) (page_slots pool) a && (nat_eq pool q && true))
   unfolding is_free_at
-  is_free_at-with_page_same q a same =
-      ap (λ x. x && (is_pool (pool_with w a) q && is_free (slot_at w a))) (is_slot_same a same)
-      ∙ ap (λ x. is_start (Some pool) (page_slots pool) a && (is_pool x q && is_free (slot_at w a))) (pool_same a same)
-      ∙ ap (λ s. is_start (Some pool) (page_slots pool) a && (nat_eq pool q && is_free s)) (free_slot a same)
+  is_free_at-with_page_same q a same swept =
+      ap (λ x. x && (is_pool (pool_with w a) q && (is_free (slot_at w a) && not (is_unswept w (page_of a))))) (is_slot_same a same)
+      ∙ ap (λ x. is_start (Some pool) (page_slots pool) a && (is_pool x q && (is_free (slot_at w a) && not (is_unswept w (page_of a))))) (pool_same a same)
+      ∙ ap (λ s. is_start (Some pool) (page_slots pool) a && (nat_eq pool q && (is_free s && not (is_unswept w (page_of a))))) (free_slot a same)
+      ∙ ap (λ x. is_start (Some pool) (page_slots pool) a && (nat_eq pool q && not x)) (ap (λ x. is_member nat_eq x (page_of a)) unswept-with_page ∙ ap (is_unswept v) same ∙ swept)

@@ -3,7 +3,7 @@ use Rattle.std.proofs.Common.{◌≡◌, ℕ, ◌*◌, ◌<◌, ◌≤◌, Bool,
 use Rattle.std.proofs.lemmas.Bool.{and_parts, eqb-true}
 use Rattle.std.proofs.lemmas.Bool.Decides.{nat_tests}
 use Rattle.space_model.specs.Layout.{page_of, page_slots, slot_address}
-use Rattle.space_heap.specs.HeapView.{PageView, HeapView, no_page, bytes_of, page_at, pool_at, slot_number, is_start, free_page, with_page}
+use Rattle.space_heap.specs.HeapView.{PageView, HeapView, no_page, bytes_of, page_at, pool_at, is_unswept, slot_number, is_start, free_page, with_page}
 use Rattle.space_heap.specs.FreeSlots.{is_free_at, IsFreeAt}
 use Rattle.space_heap.proofs.Laws.{SameRest}
 use Rattle.space_heap.proofs.NewPages.{page_at-with_page}
@@ -29,19 +29,19 @@ pub record IsSlotOfPage (page pool q a : ℕ) : Type 0 where
   pub on_page : slot < page_slots pool
   pub is : a ≡ slot_address page pool slot
 
-module _ (v : HeapView) (page pool : ℕ) (within : page ≤ length v.pages) (blank : page_at v page ≡ no_page) (known : pool < 5) where
+module _ (v : HeapView) (page pool : ℕ) (within : page ≤ length v.pages) (blank : page_at v page ≡ no_page) (swept : is_unswept v page ≡ false) (known : pool < 5) where
   -- each slot of the page is free
   pub slot_free : (slot : ℕ) → slot < page_slots pool → IsFreeAt (with_page v page pool) pool (slot_address page pool slot)
   slot_free slot low =
       let a : ℕ = slot_address page pool slot in
       let s = address_start pool page slot a known low refl in
       let start : is_start (Some pool) (page_slots pool) a ≡ true = start_from (Some pool) (page_slots pool) a s.0 (let n = s.2 in omega arith) (ap (λ k. bytes_of (Some pool) * k) s.2 ∙ s.3) in
-      is_free_at-with_page_same v page pool within blank pool a s.1 ∙ grind (arith, nat_tests, start)
+      is_free_at-with_page_same v page pool within blank pool a s.1 swept ∙ grind (arith, nat_tests, start)
 
   -- and what is free on the page is one of them
   pub free_slot_is : (q a : ℕ) → page_of a ≡ page → IsFreeAt (with_page v page pool) q a → IsSlotOfPage page pool q a
   free_slot_is q a on free =
-      let e = sym (is_free_at-with_page_same v page pool within blank q a on) ∙ free in
+      let e = sym (is_free_at-with_page_same v page pool within blank q a on swept) ∙ free in
       let p = and_parts _ _ e in
       let q' = and_parts _ _ p.1 in
       let start = start_parts (Some pool) (page_slots pool) a p.0 in

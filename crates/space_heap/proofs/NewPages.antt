@@ -1,5 +1,5 @@
 -- The heap after a pool got a page.
-use Rattle.std.proofs.Common.{◌≡◌, ◌≢◌, ⊎_elim, ℕ, zero, suc, ◌+◌, ◌<◌, ◌≤◌, Bool, true, false, true≢false, cond, List, [], ◌∷◌, ◌++◌, length, map, set, replicate, get_or, refl, sym, ap, ◌∙◌, subst, arith, nat_eq, Option, None, Some}
+use Rattle.std.proofs.Common.{◌≡◌, ◌≢◌, ⊎_elim, ℕ, zero, suc, ◌+◌, ◌*◌, ◌<◌, ◌≤◌, Bool, true, false, true≢false, cond, List, [], ◌∷◌, ◌++◌, length, map, set, replicate, get_or, refl, sym, ap, ◌∙◌, subst, arith, nat_eq, Option, None, Some}
 use Rattle.std.specs.Prelude.{is_none, count_by}
 use Rattle.std.specs.List.{range_with_len}
 use Rattle.std.proofs.lemmas.Bool.{cases_Bool, cases_eq, cases_lt, cond-true, cond-false}
@@ -10,11 +10,10 @@ use Rattle.std.proofs.lemmas.List.{get_or-replicate, length-replicate, length-ap
 use Rattle.std.proofs.Math.ListN.{get_or-append}
 use Rattle.std.proofs.Math.Seq.{get_or-append_seam}
 use Rattle.std.proofs.lemmas.List.FromFn.{fill_by_all}
-use Rattle.space_model.specs.declared.phase.Phase.{Phase}
 use Rattle.space_model.specs.Layout.{page_slots}
 use Rattle.space_planes.proofs.Bits.{bit-replicate}
 use Rattle.space_pools.specs.PageSlots.{PageSlots, spare_page, free_page as pools_free_page, count_of}
-use Rattle.space_pools.specs.PoolsView.{PoolsView, page_at as pools_page, pool_at as pools_pool}
+use Rattle.space_pools.specs.PoolsView.{PoolsView, unswept_at, page_at as pools_page, pool_at as pools_pool}
 use Rattle.space_pools.specs.Spare as pools
 use Rattle.space_pools.specs.Spare.{with_free_page}
 use Rattle.space_pools.specs.Sound.{IsSoundPools}
@@ -24,8 +23,9 @@ use Rattle.space_heap.specs.Slots.{SlotView, Free}
 use Rattle.space_heap.specs.HeapView.{HeapView, no_page, page_at, pool_at, free_page, with_page}
 use Rattle.space_heap.specs.NewPages.{is_spare, spare_count, IsSpareAt, HasNoSpare, IsLeastSpare}
 use Rattle.space_heap.specs.MarkPlanes.{marks_at, clear_marks, AreWide, slot_from}
-use Rattle.space_heap.specs.Inside.{slot_in, page_from, page_in, pages_from, view_with, FitsSlot, AreMarksOf, AreAllMarks}
+use Rattle.space_heap.specs.Inside.{slot_in, page_from, page_in, pages_from, view_with, FitsSlot, AreMarksOf, AreAllMarks, Rest}
 use Rattle.space_heap.proofs.Views.{length-pages_from, page_read, pool_read}
+use Rattle.space_heap.proofs.Unswept.{unswept_added}
 
 pub page_at-with_page : (v : HeapView) (page pool k : ℕ) → page ≤ length v.pages → page_at (with_page v page pool) k ≡ cond (nat_eq k page) (free_page pool) (page_at v k)
 unfolding with_page
@@ -57,10 +57,10 @@ module _ (v : PoolsView) (ms ns : List Marks) (page pool : ℕ) (within : page �
   w_other : (k : ℕ) → k ≢ page → pools_page w k ≡ pools_page v k
   w_other k differ = page_at-with_free_page v page pool k within ∙ cond-false (nat_eq k page) (pools_free_page pool) (pools_page v k) (grind (arith, nat_tests))
 
-  pub added_view : (born : ℕ) (phase : Phase) → view_with w ns born phase ≡ with_page (view_with v ms born phase) page pool
+  pub added_view : unswept_at v page ≡ false → (rest : Rest) → view_with w ns rest ≡ with_page (view_with v ms rest) page pool
   unfolding with_page with_free_page
-  added_view born phase =
-      let h : HeapView = view_with v ms born phase in
+  added_view swept rest =
+      let h : HeapView = view_with v ms rest in
       let n = length-pages_from v ms in
       let at : page ≤ length h.pages = omega arith in
       let same : length (with_page h page pool).pages ≡ length w.pages =
@@ -84,7 +84,7 @@ module _ (v : PoolsView) (ms ns : List Marks) (page pool : ℕ) (within : page �
       ∙ ap (λ p. page_from p (marks_at ms k)) (sym (w_other k differ))
       ∙ ap (page_from (pools_page w k)) (sym (other k differ)))
       (cases_eq k page)) in
-      λ i. record h { pages = sym e i }
+      λ i. record h { pages = sym e i; unswept = unswept_added v page pool within swept i }
 
   clear_wide : (n : ℕ) → AreWide (clear_marks n) n
   clear_wide n = let e : length (replicate n false) ≡ n = length-replicate n false in record { object = e; moved = e; guard = e; marked = e; black = e; age_low = e; age_high = e; remembered = e; kept = e; pinned = e; dead = e }
@@ -94,6 +94,7 @@ module _ (v : PoolsView) (ms ns : List Marks) (page pool : ℕ) (within : page �
     object = bit-replicate n s;
     moved = λ e. absurd (true≢false (sym e ∙ bit-replicate n s));
     words = λ words e stays. cc;
+    dead = λ e. absurd (true≢false (sym e ∙ bit-replicate n s));
   }
 
   clear_page : AreMarksOf (pools_free_page pool) (clear_marks (page_slots pool))
@@ -125,7 +126,7 @@ counted_none p (x ∷ xs) d h =
     sum_by-cons (λ x. cond (p x) 1 0) x xs ∙ ap (λ b. cond b 1 0 + count_by p xs) first ∙ ap (λ n. 0 + n) rest
 
 -- pages with the same tests have the same counts
-same_counts : {X Y : Type 0} (p : X → Bool) (q : Y → Bool) (xs : List X) (ys : List Y) (d : X) (e : Y) → length xs ≡ length ys → ((k : ℕ) → k < length xs → p (get_or xs k d) ≡ q (get_or ys k e)) → count_by p xs ≡ count_by q ys
+pub same_counts : {X Y : Type 0} (p : X → Bool) (q : Y → Bool) (xs : List X) (ys : List Y) (d : X) (e : Y) → length xs ≡ length ys → ((k : ℕ) → k < length xs → p (get_or xs k d) ≡ q (get_or ys k e)) → count_by p xs ≡ count_by q ys
 same_counts p q [] [] d e same each = refl
 same_counts p q [] (y ∷ ys) d e same each = absurd (omega arith)
 same_counts p q (x ∷ xs) [] d e same each = absurd (omega arith)
@@ -148,9 +149,9 @@ not_none (Some pool) h = refl
 pub no_spare_count : (v : HeapView) → HasNoSpare v → spare_count v ≡ 0
 no_spare_count v none = counted_none is_spare v.pages no_page (λ k h. not_none (pool_at v k) (λ e. none k (h, e)))
 
-module _ (v : PoolsView) (ms : List Marks) (born : ℕ) (phase : Phase) where
+module _ (v : PoolsView) (ms : List Marks) (rest : Rest) where
   abbrev h : HeapView
-  h = view_with v ms born phase
+  h = view_with v ms rest
 
   pub spare_count_read : pools.spare_count v ≡ spare_count h
   spare_count_read = same_counts pools.is_spare is_spare v.pages (pages_from v ms) spare_page no_page (sym (length-pages_from v ms)) (λ k _. ap is_none (sym (pool_read v ms k)))
@@ -229,3 +230,14 @@ next_spare v page full next = ⊎_elim (λ l. l) (λ h. let e = full h.0 in let 
 pub limit_with_free_page : (v : PoolsView) (page pool : ℕ) → (with_free_page v page pool).limit ≡ v.limit
 unfolding with_free_page
 limit_with_free_page v page pool = refl
+
+-- there are as many pages as before, or one more
+pub places_kept : (v : PoolsView) (page pool room : ℕ) → page < length v.pages → 1638 * length v.pages ≤ room → 1638 * length (with_free_page v page pool).pages ≤ room
+places_kept v page pool room below h =
+    let e : length (with_free_page v page pool).pages ≡ length v.pages = length-with_free_page v page pool (omega arith) ∙ cond-false (nat_eq page (length v.pages)) (length v.pages + 1) (length v.pages) (grind (arith, nat_tests)) in
+    omega arith
+
+pub places_made : (v : PoolsView) (page pool room : ℕ) → page ≡ length v.pages → 1638 * (length v.pages + 1) ≤ room → 1638 * length (with_free_page v page pool).pages ≤ room
+places_made v page pool room last h =
+    let e : length (with_free_page v page pool).pages ≡ length v.pages + 1 = length-with_free_page v page pool (omega arith) ∙ cond-true (nat_eq page (length v.pages)) (length v.pages + 1) (length v.pages) (grind (arith, nat_tests)) in
+    omega arith

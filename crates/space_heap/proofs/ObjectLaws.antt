@@ -1,8 +1,10 @@
 -- The laws of objects at addresses, for the callers: what stands where after an object changed, after a birth and after a new page.
-use Rattle.std.proofs.Common.{ℕ, ◌+◌, None, Some, cond, ◌≡◌, ◌≢◌, ⊎_elim, Bool, true, false, true≢false, not, ◌&&◌, length, refl, sym, ap, ◌∙◌, subst}
+use Rattle.std.proofs.Common.{ℕ, ◌+◌, None, Some, cond, ◌≡◌, ◌≢◌, ⊎_elim, Bool, true, false, true≢false, not, ◌&&◌, length, nat_eq, refl, sym, ap, ◌∙◌, subst}
+use Rattle.std.specs.Set.{is_member}
 use Rattle.std.proofs.lemmas.Bool.{cases_Bool, cases_eq, cond-true, cond-false, and_parts}
+use Rattle.space_model.specs.Layout.{page_of}
 use Rattle.space_heap.specs.Slots.{ObjectView, SlotView, Free, Moved, Object, has_object, has_present, object_in, is_free, moved_in}
-use Rattle.space_heap.specs.HeapView.{Counters, HeapView, pool_at, pool_with, is_slot, slot_at, with_slot}
+use Rattle.space_heap.specs.HeapView.{Counters, HeapView, pool_at, pool_with, is_slot, is_unswept, slot_at, with_slot}
 use Rattle.space_heap.specs.Objects.{stands, is_object, object_of, resolved, with_object, placed}
 use Rattle.space_heap.specs.FreeSlots.{is_pool, is_free_at, IsFreeAt}
 use Rattle.space_heap.proofs.Laws.{SameRest, rest-with_slot, slot_at-with_slot_same, slot_at-with_slot_other, slot_at_none, is_slot-with_slot, pool_with-with_slot, pool_at-with_slot, count-with_slot}
@@ -41,7 +43,7 @@ slot_same : (v : HeapView) (a : ℕ) (o : ObjectView) → stands v a ≡ true �
 slot_same v a o e = slot_at-with_slot_same v a (Object o) (slot_from_stands v a e)
 
 -- a part of a slot that is the same for all objects stays
-slot_stays : {X : Type 0} (f : SlotView → X) (v : HeapView) (a : ℕ) (o : ObjectView) (b : ℕ) → (stands v a ≡ true → f (Object o) ≡ f (slot_at v a)) → f (slot_at (with_object v a o) b) ≡ f (slot_at v b)
+pub slot_stays : {X : Type 0} (f : SlotView → X) (v : HeapView) (a : ℕ) (o : ObjectView) (b : ℕ) → (stands v a ≡ true → f (Object o) ≡ f (slot_at v a)) → f (slot_at (with_object v a o) b) ≡ f (slot_at v b)
 slot_stays f v a o b same = by_cases v a o (λ w. f (slot_at w b) ≡ f (slot_at v b)) refl
     (λ e. ⊎_elim
     (λ here. ap (λ b. f (slot_at (with_slot v a (Object o)) b)) here ∙ ap f (slot_same v a o e) ∙ same e ∙ ap (λ b. f (slot_at v b)) (sym here))
@@ -54,7 +56,7 @@ is_object_slot Free e = cc
 is_object_slot (Moved to) e = cc
 is_object_slot (Object o) e = refl
 
-standing_slot : (v : HeapView) (a : ℕ) → stands v a ≡ true → slot_at v a ≡ Object (object_of v a)
+pub standing_slot : (v : HeapView) (a : ℕ) → stands v a ≡ true → slot_at v a ≡ Object (object_of v a)
 unfolding stands object_of
 standing_slot v a e = is_object_slot (slot_at v a) e
 
@@ -100,21 +102,30 @@ pool_with-with_object : (v : HeapView) (a : ℕ) (o : ObjectView) (b : ℕ) → 
 pool_with-with_object v a o b = by_cases v a o (λ w. pool_with w b ≡ pool_with v b) refl (λ _. pool_with-with_slot v a (Object o) b)
 
 -- whether an address is free, by the three parts
-free_by : (v w : HeapView) (pool b : ℕ) → is_slot w b ≡ is_slot v b → pool_with w b ≡ pool_with v b → is_free (slot_at w b) ≡ is_free (slot_at v b) → is_free_at w pool b ≡ is_free_at v pool b
+pub free_by : (v w : HeapView) (pool b : ℕ) → is_slot w b ≡ is_slot v b → pool_with w b ≡ pool_with v b → is_free (slot_at w b) ≡ is_free (slot_at v b) → w.unswept ≡ v.unswept → is_free_at w pool b ≡ is_free_at v pool b
 unfolding is_free_at
-free_by v w pool b slot its free =
-    ap (λ x. x && (is_pool (pool_with w b) pool && is_free (slot_at w b))) slot
-    ∙ ap (λ x. is_slot v b && (is_pool x pool && is_free (slot_at w b))) its
-    ∙ ap (λ x. is_slot v b && (is_pool (pool_with v b) pool && x)) free
+free_by v w pool b slot its free unswept =
+    ap (λ x. x && (is_pool (pool_with w b) pool && (is_free (slot_at w b) && not (is_unswept w (page_of b))))) slot
+    ∙ ap (λ x. is_slot v b && (is_pool x pool && (is_free (slot_at w b) && not (is_unswept w (page_of b))))) its
+    ∙ ap (λ x. is_slot v b && (is_pool (pool_with v b) pool && (x && not (is_unswept w (page_of b))))) free
+    ∙ ap (λ x. is_slot v b && (is_pool (pool_with v b) pool && (is_free (slot_at v b) && not (is_member nat_eq x (page_of b))))) unswept
+
+unswept-with_object : (v : HeapView) (a : ℕ) (o : ObjectView) → (with_object v a o).unswept ≡ v.unswept
+unswept-with_object v a o = by_cases v a o (λ w. w.unswept ≡ v.unswept) refl (λ _. (rest-with_slot v a (Object o)).unswept)
+
+unswept_placed : (v : HeapView) (a : ℕ) (o : ObjectView) → (placed v a o).unswept ≡ v.unswept
+unfolding placed
+unswept_placed v a o = (rest-with_slot v a (Object o)).unswept
 
 pub is_free_at-with_object : (v : HeapView) (a : ℕ) (o : ObjectView) (pool b : ℕ) → is_free_at (with_object v a o) pool b ≡ is_free_at v pool b
-is_free_at-with_object v a o pool b = free_by v (with_object v a o) pool b (is_slot-with_object v a o b) (pool_with-with_object v a o b) (slot_stays is_free v a o b (λ e. sym (ap is_free (standing_slot v a e))))
+is_free_at-with_object v a o pool b = free_by v (with_object v a o) pool b (is_slot-with_object v a o b) (pool_with-with_object v a o b) (slot_stays is_free v a o b (λ e. sym (ap is_free (standing_slot v a e)))) (unswept-with_object v a o)
 
 -- what a free address tells
 pub record FreeParts (v : HeapView) (pool a : ℕ) : Type 0 where
   pub slot : is_slot v a ≡ true
   pub its : is_pool (pool_with v a) pool ≡ true
   pub free : slot_at v a ≡ Free
+  pub swept : is_unswept v (page_of a) ≡ false
 
 free_slot : (s : SlotView) → is_free s ≡ true → s ≡ Free
 free_slot Free e = refl
@@ -126,7 +137,12 @@ unfolding is_free_at
 free_parts v pool a e =
     let p = and_parts _ _ e in
     let q = and_parts _ _ p.1 in
-    record { slot = p.0; its = q.0; free = free_slot (slot_at v a) q.1 }
+    let r = and_parts _ _ q.1 in
+    record { slot = p.0; its = q.0; free = free_slot (slot_at v a) r.0; swept = not_true (is_unswept v (page_of a)) r.1 }
+  where
+    not_true : (b : Bool) → not b ≡ true → b ≡ false
+    not_true true e = sym e
+    not_true false e = refl
 
 -- no object stands at a free address
 pub none_stands_free : (v : HeapView) (pool a : ℕ) → IsFreeAt v pool a → stands v a ≡ false
@@ -150,10 +166,10 @@ pool_with-placed : (v : HeapView) (a : ℕ) (o : ObjectView) (b : ℕ) → pool_
 unfolding placed pool_with
 pool_with-placed v a o b = pool_with-with_slot v a (Object o) b
 
-placed_here : (v : HeapView) (pool a : ℕ) (o : ObjectView) → IsFreeAt v pool a → slot_at (placed v a o) a ≡ Object o
+pub placed_here : (v : HeapView) (pool a : ℕ) (o : ObjectView) → IsFreeAt v pool a → slot_at (placed v a o) a ≡ Object o
 placed_here v pool a o e = slot_at-placed v a o a ∙ slot_at-with_slot_same v a (Object o) (free_parts v pool a e).slot
 
-placed_other : (v : HeapView) (a : ℕ) (o : ObjectView) (b : ℕ) → b ≢ a → slot_at (placed v a o) b ≡ slot_at v b
+pub placed_other : (v : HeapView) (a : ℕ) (o : ObjectView) (b : ℕ) → b ≢ a → slot_at (placed v a o) b ≡ slot_at v b
 placed_other v a o b differ = slot_at-placed v a o b ∙ slot_at-with_slot_other v a (Object o) b differ
 
 pub pool_at-placed : (v : HeapView) (a : ℕ) (o : ObjectView) (page : ℕ) → pool_at (placed v a o) page ≡ pool_at v page
@@ -203,18 +219,21 @@ and_false false c = refl
 pub is_free_at-placed_same : (v : HeapView) (pool a : ℕ) (o : ObjectView) (q : ℕ) → IsFreeAt v pool a → is_free_at (placed v a o) q a ≡ false
 unfolding is_free_at
 is_free_at-placed_same v pool a o q e =
-    ap (λ s. is_slot (placed v a o) a && (is_pool (pool_with (placed v a o) a) q && is_free s)) (placed_here v pool a o e)
+    ap (λ s. is_slot (placed v a o) a && (is_pool (pool_with (placed v a o) a) q && (is_free s && not (is_unswept (placed v a o) (page_of a))))) (placed_here v pool a o e)
     ∙ and_false (is_slot (placed v a o) a) (is_pool (pool_with (placed v a o) a) q)
 
 pub is_free_at-placed_other : (v : HeapView) (a : ℕ) (o : ObjectView) (q b : ℕ) → b ≢ a → is_free_at (placed v a o) q b ≡ is_free_at v q b
-is_free_at-placed_other v a o q b differ = free_by v (placed v a o) q b (is_slot-placed v a o b) (pool_with-placed v a o b) (ap is_free (placed_other v a o b differ))
+is_free_at-placed_other v a o q b differ = free_by v (placed v a o) q b (is_slot-placed v a o b) (pool_with-placed v a o b) (ap is_free (placed_other v a o b differ)) (unswept_placed v a o)
 
 -- the word that names an object is the address where it stands
-pub stands_from_word : (v : HeapView) (word a : ℕ) → cond (is_object v word) (Some word) None ≡ Some a → stands v a ≡ true
-stands_from_word v word a e = ⊎_elim
-    (λ is. let same : Some word ≡ Some a = sym (cond-true (is_object v word) (Some word) None is) ∙ e in let at : word ≡ a = cc in subst (λ a. stands v a ≡ true) at (stands_from_object v word is))
+pub object_from_word : (v : HeapView) (word a : ℕ) → cond (is_object v word) (Some word) None ≡ Some a → is_object v a ≡ true
+object_from_word v word a e = ⊎_elim
+    (λ is. let same : Some word ≡ Some a = sym (cond-true (is_object v word) (Some word) None is) ∙ e in let at : word ≡ a = cc in subst (λ a. is_object v a ≡ true) at is)
     (λ none. let never : None ≡ Some a = sym (cond-false (is_object v word) (Some word) None none) ∙ e in cc)
     (cases_Bool (is_object v word))
+
+pub stands_from_word : (v : HeapView) (word a : ℕ) → cond (is_object v word) (Some word) None ≡ Some a → stands v a ≡ true
+stands_from_word v word a e = stands_from_object v a (object_from_word v word a e)
 
 -- all but the slots stays
 pub rest-with_object : (v : HeapView) (a : ℕ) (o : ObjectView) → SameRest v (with_object v a o)
@@ -244,3 +263,7 @@ phase-placed v a o = (rest-with_slot v a (Object o)).phase
 pub cursor-placed : (v : HeapView) (a : ℕ) (o : ObjectView) → (placed v a o).cursor ≡ v.cursor
 unfolding placed
 cursor-placed v a o = (rest-with_slot v a (Object o)).cursor
+
+pub counters-placed : (v : HeapView) (a : ℕ) (o : ObjectView) → (placed v a o).counters ≡ record v.counters { born = v.counters.born + 1 }
+unfolding placed
+counters-placed v a o = ap (λ (c : Counters). record c { born = c.born + 1 }) (rest-with_slot v a (Object o)).counters

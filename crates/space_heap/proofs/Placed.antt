@@ -6,7 +6,6 @@ use Rattle.space_model.specs.Layout.{pool_for}
 use Rattle.space_model.specs.declared.object.Guard.{Guard}
 use Rattle.space_model.specs.declared.object.Guard.TheVariants.{Protected, Unprotected}
 use Rattle.space_model.specs.declared.object.Style.{Style}
-use Rattle.space_model.specs.declared.phase.Phase.{Phase}
 use Rattle.space_planes.specs.Planes.{bit}
 use Rattle.space_planes.proofs.Bits.{bit-set_same}
 use Rattle.space_pages.specs.Slots.{words_of}
@@ -20,7 +19,7 @@ use Rattle.space_heap.specs.HeapView.{HeapView, with_slot}
 use Rattle.space_heap.specs.Objects.{placed}
 use Rattle.space_heap.specs.MarkPlanes.{marks_at, clear_marks, AreWide, slot_from, traits_from, object_from, born_marks, guard_from, is_unprotected, colour_from, age_from}
 use Rattle.space_heap.specs.SlotPlaces.{IsSlotAt, SlotChanged}
-use Rattle.space_heap.specs.Inside.{view_with, FitsSlot, AreAllMarks}
+use Rattle.space_heap.specs.Inside.{view_with, FitsSlot, AreAllMarks, Rest}
 use Rattle.space_heap.proofs.Readers.{marks_within, bits_within, marks_wide}
 use Rattle.space_heap.proofs.WordLaws.{NewWords, new_words, pool_room}
 use Rattle.space_heap.proofs.Changes.{born_marks_changed, view_changed, marks_changed}
@@ -62,11 +61,16 @@ fits_born words m s shape object stays = record {
   object = object ∙ sym (ap (λ b. true && not b) stays);
   moved = λ e. refl;
   words = λ others e f. let p : words ≡ others = cc in subst AreObjectWords p shape;
+  dead = λ e. object;
 }
 
-module _ (v w : PoolsView) (ms : List Marks) (born : ℕ) (phase : Phase) (a page slot fields name : ℕ) (guard : Guard) (style : Style) (few : fields ≤ 78) (all : AreAllMarks v ms) (at : IsSlotAt v a page slot) (changed : SlotChanged v w page slot (Some (object_words (words_of (pool_for fields)) fields style name))) where
+-- one more object was born
+abbrev pub one_more : Rest → Rest
+one_more rest = record rest { counters = record rest.counters { born = rest.counters.born + 1 } }
+
+module _ (v w : PoolsView) (ms : List Marks) (rest : Rest) (a page slot fields name : ℕ) (guard : Guard) (style : Style) (few : fields ≤ 78) (all : AreAllMarks v ms) (at : IsSlotAt v a page slot) (changed : SlotChanged v w page slot (Some (object_words (words_of (pool_for fields)) fields style name))) where
   abbrev h : HeapView
-  h = view_with v ms born phase
+  h = view_with v ms rest
 
   abbrev words : List ℕ
   words = object_words (words_of (pool_for fields)) fields style name
@@ -81,13 +85,13 @@ module _ (v w : PoolsView) (ms : List Marks) (born : ℕ) (phase : Phase) (a pag
   tells = new_words (words_of (pool_for fields)) fields name style (pool_room fields few)
 
   within : slot < length (marks_at ms page).object
-  within = bits_within v ms born phase a page slot all at
+  within = bits_within v ms rest a page slot all at
 
   wide : AreWide (marks_at ms page) (length (marks_at ms page).object)
-  wide = marks_wide v ms born phase a page slot all at
+  wide = marks_wide v ms rest a page slot all at
 
   page_there : page < length ms
-  page_there = marks_within v ms born phase a page slot all at
+  page_there = marks_within v ms rest a page slot all at
 
   read : marks_at ns page ≡ m
   read = get_or-set_same ms page m (clear_marks 0) page_there
@@ -102,11 +106,11 @@ module _ (v w : PoolsView) (ms : List Marks) (born : ℕ) (phase : Phase) (a pag
       ∙ ap (λ t. Object (object_from words t)) (traits_born (marks_at ms page) slot guard within wide)
       ∙ ap Object (object_born words fields name style guard tells)
 
-  pub placed_view : view_with w ns (born + 1) phase ≡ placed h a (new_object name fields guard style)
+  pub placed_view : view_with w ns (one_more rest) ≡ placed h a (new_object name fields guard style)
   unfolding placed
   placed_view =
-      let path : view_with w ns born phase ≡ with_slot h a (Object (new_object name fields guard style)) =
-      sym (view_changed v w ms ns page slot (Some words) changed (born_marks_changed ms page slot guard page_there) born phase a at) ∙ ap (with_slot h a) slot_is in
+      let path : view_with w ns rest ≡ with_slot h a (Object (new_object name fields guard style)) =
+      sym (view_changed v w ms ns page slot (Some words) changed (born_marks_changed ms page slot guard page_there) rest a at) ∙ ap (with_slot h a) slot_is in
       ap (λ (x : HeapView). record x { counters = record x.counters { born = x.counters.born + 1 } }) path
 
   fit : FitsSlot (Some words) m slot

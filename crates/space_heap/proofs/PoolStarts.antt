@@ -60,6 +60,23 @@ wide_slot v page slot sound taken =
     let long = (sound.sound page).long in
     wide_of (pool_at v page) slot (sound.sound page).known (omega arith)
 
+narrow : (pool : ℕ) → pool < 5 → words_of pool ≤ 80
+unfolding slot_bytes
+narrow zero known = omega arith
+narrow (suc zero) known = omega arith
+narrow (suc (suc zero)) known = omega arith
+narrow (suc (suc (suc zero))) known = omega arith
+narrow (suc (suc (suc (suc zero)))) known = omega arith
+narrow (suc (suc (suc (suc (suc pool))))) known = absurd (omega arith)
+
+narrow_of : (pool : Option ℕ) → ((p : ℕ) → pool ≡ Some p → p < 5) → width_of pool ≤ 80
+narrow_of None known = omega arith
+narrow_of (Some pool) known = narrow pool (known pool refl)
+
+-- a slot has at most 80 words
+pub narrow_slot : (v : PoolsView) (page : ℕ) → IsSoundPools v → width_of (pool_at v page) ≤ 80
+narrow_slot v page sound = narrow_of (pool_at v page) (sound.sound page).known
+
 pub page_is : (a : ℕ) → a / 65536 - 1 ≡ page_of a
 unfolding page_of
 page_is a = refl

@@ -3,7 +3,6 @@ use Rattle.std.proofs.Common.{◌≡◌, ⊎_elim, ℕ, ◌<◌, true, false, tr
 use Rattle.std.specs.Prelude.{is_some}
 use Rattle.std.proofs.lemmas.Bool.{cases_Bool, cond-true, cond-false, and_parts}
 use Rattle.std.proofs.lemmas.List.{length-take-le, length-drop}
-use Rattle.space_model.specs.declared.phase.Phase.{Phase}
 use Rattle.space_model.specs.Layout.{page_of}
 use Rattle.space_planes.specs.Planes.{bit}
 use Rattle.space_pools.specs.PoolsView.{PoolsView, page_at, pool_at, taken_at, found_at}
@@ -16,7 +15,7 @@ use Rattle.space_heap.specs.Objects.{stands, is_object, object_of, resolved}
 use Rattle.space_heap.specs.MarkPlanes.{marks_at, AreWide, slot_from, traits_from, traits_of, object_from}
 use Rattle.space_heap.specs.Shown.{IsShownBy}
 use Rattle.space_heap.specs.SlotPlaces.{is_slot_of, IsSlotAt}
-use Rattle.space_heap.specs.Inside.{view_with, AreAllMarks}
+use Rattle.space_heap.specs.Inside.{view_with, AreAllMarks, Rest}
 use Rattle.space_heap.proofs.Starts.{start_parts}
 use Rattle.space_heap.proofs.Views.{is_slot_read, slot_at_read}
 
@@ -63,13 +62,13 @@ moved_by : (found : Option (List ℕ)) (m : Marks) (s word : ℕ) → bit m.move
 moved_by None m s word stays = refl
 moved_by (Some words) m s word stays = ap (moved_in word) (cond-false (bit m.moved s) _ _ stays)
 
-module _ (v : PoolsView) (ms : List Marks) (born : ℕ) (phase : Phase) where
+module _ (v : PoolsView) (ms : List Marks) (rest : Rest) where
   abbrev h : HeapView
-  h = view_with v ms born phase
+  h = view_with v ms rest
 
   none_at : (a : ℕ) → is_slot_of v a ≡ false → slot_at h a ≡ Free
   unfolding slot_at
-  none_at a none = cond-false (is_slot h a) _ Free (is_slot_read v ms born phase a ∙ none)
+  none_at a none = cond-false (is_slot h a) _ Free (is_slot_read v ms rest a ∙ none)
 
   pub none_stands : (a : ℕ) → is_slot_of v a ≡ false → stands h a ≡ false
   unfolding stands
@@ -101,12 +100,12 @@ module _ (v : PoolsView) (ms : List Marks) (born : ℕ) (phase : Phase) where
 
     pub stands_read : stands h a ≡ bit m.object slot
     unfolding stands
-    stands_read = ap has_object (slot_at_read v ms born phase a page slot at) ∙ stands_by (found_at v page slot) m slot ∙ sym ((all.of_page page).each slot).object
+    stands_read = ap has_object (slot_at_read v ms rest a page slot at) ∙ stands_by (found_at v page slot) m slot ∙ sym ((all.of_page page).each slot).object
 
     pub is_object_read : is_object h a ≡ (bit m.object slot && not (bit m.dead slot))
     unfolding is_object
     is_object_read =
-        ap has_present (slot_at_read v ms born phase a page slot at)
+        ap has_present (slot_at_read v ms rest a page slot at)
         ∙ present_by (found_at v page slot) m slot
         ∙ ap (λ b. b && not (bit m.dead slot)) (stands_by (found_at v page slot) m slot ∙ sym ((all.of_page page).each slot).object)
 
@@ -115,18 +114,18 @@ module _ (v : PoolsView) (ms : List Marks) (born : ℕ) (phase : Phase) where
 
     pub resolved_stays : bit m.moved slot ≡ false → resolved h a ≡ a
     unfolding resolved
-    resolved_stays stays = ap (moved_in a) (slot_at_read v ms born phase a page slot at) ∙ moved_by (found_at v page slot) m slot a stays
+    resolved_stays stays = ap (moved_in a) (slot_at_read v ms rest a page slot at) ∙ moved_by (found_at v page slot) m slot a stays
 
     pub resolved_moved : (words : List ℕ) → found_at v page slot ≡ Some words → bit m.moved slot ≡ true → resolved h a ≡ word_at words 1
     unfolding resolved
     resolved_moved words found moved =
-        ap (moved_in a) (slot_at_read v ms born phase a page slot at)
+        ap (moved_in a) (slot_at_read v ms rest a page slot at)
         ∙ ap (λ f. moved_in a (slot_from f m slot)) found
         ∙ ap (moved_in a) (cond-true (bit m.moved slot) (Moved (word_at words 1)) (Object (object_from words (traits_from m slot))) moved)
 
     has : stands h a ≡ true → has_object (slot_from (found_at v page slot) m slot) ≡ true
     unfolding stands
-    has e = sym (ap has_object (slot_at_read v ms born phase a page slot at)) ∙ e
+    has e = sym (ap has_object (slot_at_read v ms rest a page slot at)) ∙ e
 
     -- the object that stands there has these words and traits
     pub object_read : (words : List ℕ) → stands h a ≡ true → found_at v page slot ≡ Some words → object_of h a ≡ object_from words (traits_from m slot)
@@ -134,7 +133,7 @@ module _ (v : PoolsView) (ms : List Marks) (born : ℕ) (phase : Phase) where
     object_read words e found =
         let o = object_by (found_at v page slot) m slot (has e) in
         let same : o.0 ≡ words = let p = o.1 in cc in
-        ap object_in (slot_at_read v ms born phase a page slot at) ∙ o.3 ∙ ap (λ ws. object_from ws (traits_from m slot)) same
+        ap object_in (slot_at_read v ms rest a page slot at) ∙ o.3 ∙ ap (λ ws. object_from ws (traits_from m slot)) same
 
     pub moved_read : stands h a ≡ true → bit m.moved slot ≡ false
     moved_read e = (object_by (found_at v page slot) m slot (has e)).2

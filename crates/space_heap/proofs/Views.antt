@@ -4,7 +4,6 @@ use Rattle.std.specs.List.{range_with_len}
 use Rattle.std.proofs.lemmas.Bool.{cases_eq, cases_lt, cond-true}
 use Rattle.std.proofs.lemmas.List.{get_or-set_same, get_or-set_other, length-set, get_or_past}
 use Rattle.std.proofs.lemmas.List.FromFn.{length-map-range_with_len, get_or-map-range_with_len, fill_by_all}
-use Rattle.space_model.specs.declared.phase.Phase.{Phase}
 use Rattle.space_model.specs.Layout.{page_of}
 use Rattle.space_pools.specs.PageSlots.{PageSlots, spare_page}
 use Rattle.space_pools.specs.PoolsView.{PoolsView, page_at as pools_page, pool_at as pools_pool, found_at}
@@ -13,7 +12,7 @@ use Rattle.space_heap.specs.Slots.{SlotView, Free}
 use Rattle.space_heap.specs.HeapView.{PageView, HeapView, no_page, is_start, slot_number, is_slot, slot_at, with_slot_in}
 use Rattle.space_heap.specs.MarkPlanes.{marks_at, slot_from}
 use Rattle.space_heap.specs.SlotPlaces.{is_slot_of, IsSlotAt}
-use Rattle.space_heap.specs.Inside.{slot_in, page_from, page_in, pages_from, view_with}
+use Rattle.space_heap.specs.Inside.{slot_in, page_from, page_in, pages_from, view_with, Rest}
 
 pub length-pages_from : (v : PoolsView) (ms : List Marks) → length (pages_from v ms) ≡ length v.pages
 length-pages_from v ms = length-map-range_with_len (page_in v ms) 0 (length v.pages)
@@ -38,9 +37,9 @@ slot_read p m s = ⊎_elim
     (λ past. get_or_past (page_from p m).slots s Free (let n = length-slots_from p m in omega arith) ∙ sym (ap (λ f. slot_from f m s) (get_or_past p.slots s None past)))
     (cases_lt s (length p.slots))
 
-module _ (v : PoolsView) (ms : List Marks) (born : ℕ) (phase : Phase) where
+module _ (v : PoolsView) (ms : List Marks) (rest : Rest) where
   abbrev h : HeapView
-  h = view_with v ms born phase
+  h = view_with v ms rest
 
   -- the starts of slots
   pub is_slot_read : (a : ℕ) → is_slot h a ≡ is_slot_of v a

@@ -1,5 +1,6 @@
 -- What a contract sees of the heap: pages of slots, the grey objects, the phase and the counters.
-use Rattle.std.specs.Prelude.{ℕ, ◌*◌, ◌/◌, ◌%◌, Bool, nat_le, nat_lt, ◌==◌, ◌&&◌, List, [], ◌∷◌, ◌++◌, length, replicate, Option, None, Some, slice_index_or, slice_set, if◌then◌else◌}
+use Rattle.std.specs.Prelude.{ℕ, ◌*◌, ◌/◌, ◌%◌, Bool, nat_eq, nat_le, nat_lt, ◌==◌, ◌&&◌, List, [], ◌∷◌, ◌++◌, length, replicate, Option, None, Some, slice_index_or, slice_set, if◌then◌else◌}
+use Rattle.std.specs.Set.{is_member}
 use Rattle.space_model.specs.declared.phase.Phase.{Phase}
 use Rattle.space_model.specs.declared.phase.Phase.TheVariants.{Idle}
 use Rattle.space_model.specs.Layout.{slot_bytes, page_slots, page_of}
@@ -48,6 +49,10 @@ page_at v page = slice_index_or v.pages page no_page
 -- the pool of a page; none for a spare page, and where there is no page
 abbrev pub pool_at : HeapView → ℕ → Option ℕ
 pool_at v page = (page_at v page).pool
+
+-- whether the page waits for a sweep
+abbrev pub is_unswept : HeapView → ℕ → Bool
+is_unswept v page = is_member nat_eq v.unswept page
 
 -- the bytes of a slot of such a page
 abbrev pub bytes_of : Option ℕ → ℕ

@@ -1,16 +1,17 @@
 -- What the fields of a heap stand for, and what holds of them.
-use Rattle.std.specs.Prelude.{◌≡◌, ℕ, ◌≤◌, true, false, not, ◌&&◌, List, [], length, map, vec_capacity, is_some, Option, Some}
-use Rattle.std.specs.List.{range_with_len}
+use Rattle.std.specs.Prelude.{◌≡◌, ℕ, ◌*◌, ◌≤◌, true, false, not, ◌&&◌, List, length, map, vec_capacity, is_some, Option, Some}
+use Rattle.std.specs.List.{range_with_len, filter}
 use Rattle.space_model.specs.declared.phase.Phase.{Phase}
 use Rattle.space_planes.specs.Planes.{bit}
 use Rattle.space_pools.specs.PageSlots.{PageSlots, found_in}
-use Rattle.space_pools.specs.PoolsView.{PoolsView, page_at}
+use Rattle.space_pools.specs.PoolsView.{PoolsView, page_at, unswept_at}
 use Rattle.space_heap.specs.declared.marks.Marks.{Marks}
 use Rattle.space_heap.specs.declared.heap.Heap.TheInside.{Inside}
 use Rattle.space_heap.specs.Slots.{SlotView}
 use Rattle.space_heap.specs.ObjectWords.{AreObjectWords}
-use Rattle.space_heap.specs.HeapView.{PageView, HeapView, no_counters}
+use Rattle.space_heap.specs.HeapView.{PageView, Counters, HeapView, no_counters}
 use Rattle.space_heap.specs.MarkPlanes.{marks_at, AreWide, slot_from}
+use Rattle.space_heap.specs.Marking.{IsCoherent}
 
 abbrev pub slot_in : PageSlots → Marks → ℕ → SlotView
 slot_in p m s = slot_from (found_in p s) m s
@@ -24,25 +25,40 @@ page_in v marks page = page_from (page_at v page) (marks_at marks page)
 abbrev pub pages_from : PoolsView → List Marks → List PageView
 pages_from v marks = map (page_in v marks) (range_with_len 0 (length v.pages))
 
-abbrev pub view_with : PoolsView → List Marks → ℕ → Phase → HeapView
-view_with v marks born phase = record {
+-- the pages that wait for a sweep
+abbrev pub unswept_in : PoolsView → List ℕ
+unswept_in v = filter (unswept_at v) (range_with_len 0 (length v.pages))
+
+-- what a heap's view has besides its pages
+pub record Rest : Type 0 where
+  pub grey : List ℕ
+  pub phase : Phase
+  pub cursor : ℕ
+  pub counters : Counters
+
+abbrev pub rest_of : Inside → Rest
+rest_of h = record { grey = h.grey.items; phase = h.phase; cursor = 0; counters = record no_counters { born = h.born; minor_verdicts = h.minor_verdicts; other_verdicts = h.other_verdicts; freed = h.freed } }
+
+abbrev pub view_with : PoolsView → List Marks → Rest → HeapView
+view_with v marks rest = record {
   limit = v.limit;
   pages = pages_from v marks;
-  unswept = [];
-  grey = [];
-  phase = phase;
-  cursor = 0;
-  counters = record no_counters { born = born };
+  unswept = unswept_in v;
+  grey = rest.grey;
+  phase = rest.phase;
+  cursor = rest.cursor;
+  counters = rest.counters;
 }
 
 abbrev pub view_from : Inside → HeapView
-view_from h = view_with h.pools h.marks.items h.born h.phase
+view_from h = view_with h.pools h.marks.items (rest_of h)
 
--- the slot is in exactly one of object, free and moved, and an object has the words of one
+-- the slot is in exactly one of object, free and moved, an object has the words of one, and only an object is gone
 pub record FitsSlot (found : Option (List ℕ)) (m : Marks) (s : ℕ) : Type 0 where
   pub object : bit m.object s ≡ (is_some found && not (bit m.moved s))
   pub moved : bit m.moved s ≡ true → is_some found ≡ true
   pub words : (words : List ℕ) → found ≡ Some words → bit m.moved s ≡ false → AreObjectWords words
+  pub dead : bit m.dead s ≡ true → bit m.object s ≡ true
 
 pub record AreMarksOf (p : PageSlots) (m : Marks) : Type 0 where
   pub wide : AreWide m (length p.slots)
@@ -55,3 +71,6 @@ pub record AreAllMarks (v : PoolsView) (marks : List Marks) : Type 0 where
 pub record IsHeap (h : Inside) : Type 0 where
   pub marks : AreAllMarks h.pools h.marks.items
   pub room : h.pools.limit ≤ vec_capacity h.marks
+  -- each slot has its place on the mark stack
+  pub places : 1638 * length h.pools.pages ≤ vec_capacity h.grey
+  pub coherent : IsCoherent (view_from h)

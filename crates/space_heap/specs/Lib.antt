@@ -6,6 +6,12 @@ pub mod FreeSlots
 pub mod NewPages
 pub mod MarkPlanes
 pub mod NextObject
+pub mod PaintedMarks
+pub mod Marking
+pub mod SoundHeap
+pub mod Sweeping
 pub mod Shown
 pub mod SlotPlaces
 pub mod Inside
+pub mod SweptPlanes
+pub mod NextGone

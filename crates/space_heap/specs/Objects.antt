@@ -1,6 +1,6 @@
 -- What the crates above see of the heap: which addresses hold objects, which objects, and the heap after one of them changed.
-use Rattle.std.specs.Prelude.{ℕ, ◌+◌, Bool, slice_set, if◌then◌else◌}
-use Rattle.space_heap.specs.Slots.{ObjectView, Object, has_object, has_present, object_in, moved_in}
+use Rattle.std.specs.Prelude.{◌≡◌, ℕ, ◌+◌, Bool, false, slice_set, if◌then◌else◌}
+use Rattle.space_heap.specs.Slots.{ObjectView, Object, has_object, has_present, has_moved, object_in, moved_in}
 use Rattle.space_heap.specs.HeapView.{HeapView, slot_at, with_slot}
 
 -- whether an object stands at the address, gone or not
@@ -18,6 +18,14 @@ object_of v a = object_in (slot_at v a)
 -- the address to which the object that stood at this one was moved, else the word itself
 unfoldable pub resolved : HeapView → ℕ → ℕ
 resolved v word = moved_in word (slot_at v word)
+
+-- whether the object that stood at the address was moved away
+unfoldable pub is_moved : HeapView → ℕ → Bool
+is_moved v a = has_moved (slot_at v a)
+
+-- no object was moved away
+abbrev pub HasNoMoved : HeapView → Type 0
+HasNoMoved v = (a : ℕ) → is_moved v a ≡ false
 
 -- the heap after the object at the address became this one; nothing changes where there is no object
 unfoldable pub with_object : HeapView → ℕ → ObjectView → HeapView

@@ -1,7 +1,7 @@
 -- The slots of the pools by their addresses.
 use Rattle.std.specs.Prelude.{◌≡◌, ◌≢◌, ◌⊎◌, ℕ, Bool, true, List, length, Option}
 use Rattle.space_model.specs.Layout.{page_of}
-use Rattle.space_pools.specs.PoolsView.{PoolsView, page_at, pool_at, found_at}
+use Rattle.space_pools.specs.PoolsView.{PoolsView, page_at, pool_at, unswept_at, found_at}
 use Rattle.space_heap.specs.HeapView.{slot_number, is_start}
 
 -- whether the address is the start of a slot
@@ -20,5 +20,6 @@ pub record SlotChanged (v w : PoolsView) (page slot : ℕ) (found : Option (List
   pub count : length w.pages ≡ length v.pages
   pub pools : (k : ℕ) → pool_at w k ≡ pool_at v k
   pub slots : (k : ℕ) → length (page_at w k).slots ≡ length (page_at v k).slots
+  pub unswept : (k : ℕ) → unswept_at w k ≡ unswept_at v k
   pub here : found_at w page slot ≡ found
   pub other : (k i : ℕ) → (k ≢ page) ⊎ (i ≢ slot) → found_at w k i ≡ found_at v k i

@@ -72,3 +72,9 @@ abbrev pub moved_in : ℕ → SlotView → ℕ
 moved_in word Free = word
 moved_in word (Moved to) = to
 moved_in word (Object o) = word
+
+-- whether the object of the slot was moved away
+abbrev pub has_moved : SlotView → Bool
+has_moved Free = false
+has_moved (Moved to) = true
+has_moved (Object o) = false

@@ -1,6 +1,6 @@
 // The heap: the words of all pages with the marks of their slots.
 ghost use Rattle.std.specs.Prelude.{◌≡◌, ℕ, ◌<◌, ◌≤◌, ◌+◌, ◌^◌, ◌↔◌, true, false, Err, OnErr, if◌then◌else◌, Some, None, length, slice_index_or, IfOk, MatchOption};
-ghost use Rattle.space_heap.specs.HeapView.{empty_heap, pool_at, page_at, no_page, with_page};
+ghost use Rattle.space_heap.specs.HeapView.{empty_heap, is_unswept, pool_at, page_at, no_page, with_page};
 ghost use Rattle.space_heap.specs.NextObject.{HasNoObjectFrom, IsNextObject, IsPageClear, IsNextOnPage};
 ghost use Rattle.space_heap.specs.NewPages.{spare_count, HasNoSpare, IsLeastSpare, IsNextPage, IsAtLimit};
 ghost use Rattle.space_heap.specs.Objects.{stands, is_object, object_of, resolved, placed, written};
@@ -8,10 +8,15 @@ ghost use Rattle.space_heap.specs.FreeSlots.{IsLeastFree, HasNoFree};
 ghost use Rattle.space_heap.specs.MarkPlanes.{traits_of};
 ghost use Rattle.space_heap.specs.Slots.{new_object};
 ghost use Rattle.space_model.specs.Layout.{pool_for as pool_of_fields};
+ghost use Rattle.space_heap.specs.SoundHeap.{IsSoundHeap};
 ghost use Rattle.space_heap.specs.Shown.{IsShownBy};
+
+mod marking;
+mod sweeping;
 
 use crate::birth::bear;
 use crate::colour::Colour;
+use crate::mark_stack::reserve_places;
 use crate::marks::{Marks, Traits, append_page, begin_slot, marks_of, reset_page};
 use crate::object_words::{style_in, write_field};
 use crate::slot_place::{first_slot, slot_count, slot_place};
@@ -28,7 +33,12 @@ pub struct Heap {
     pools: Pools,
     // The planes of each page.
     marks: Vec<Marks>,
+    // The mark stack.
+    grey: Vec<u64>,
     born: u64,
+    minor_verdicts: u64,
+    other_verdicts: u64,
+    freed: u64,
     phase: Phase,
     // The planes that a formula over a page is computed into.
     working: Plane,
@@ -73,7 +83,11 @@ impl Heap {
             alloc,
             pools: Pools::new(alloc, limit)?,
             marks: Vec::with_capacity(alloc, limit as usize)?,
+            grey: Vec::new(alloc),
             born: 0,
+            minor_verdicts: 0,
+            other_verdicts: 0,
+            freed: 0,
             phase: Phase::Idle,
             working: Plane::new(alloc, MOST_BITS)?,
             scans: Plane::new(alloc, MOST_BITS)?,
@@ -106,6 +120,7 @@ impl Heap {
     pub fn page_count(&self) -> u32
         ensures count { result ≡ length self.now.pages }
         ensures limited { length self.now.pages ≤ self.now.limit }
+        ensures sound { IsSoundHeap self.now }
     {
         self.pools.page_count()
     }
@@ -149,7 +164,8 @@ impl Heap {
     // The words of the object at an address.
     fn words(&self, address: u64) -> &[u64]
         requires { stands self.now address ≡ true }
-        ensures { IsShownBy (object_of self.now address) result.now }
+        ensures shown { IsShownBy (object_of self.now address) result.now }
+        ensures most { length result.now ≤ 80 }
     {
         match slot_place(&self.pools, address) {
             Some((page, slot)) => self.pools.slot(page, slot),
@@ -267,6 +283,7 @@ impl Heap {
         requires object { stands self.now address ≡ true }
         requires ticks { steps.old + 1 < 2 ^ 64 }
         ensures words { result.now ≡ (object_of self.now address).fields }
+        ensures few { length result.now ≤ MOST_FIELDS }
         ensures tick { steps.new ≡ steps.old + 1 }
     {
         steps.tick();
@@ -375,15 +392,20 @@ impl Heap {
         self.page_count() < self.limit()
     }
 
-    // Makes the next page, for the pool.
+    // Makes the next page, for the pool. First it makes places on the mark stack for its objects.
     fn make_page(&mut self, pool: u8) -> Result<u32, PageFault>
         requires known { pool < POOLS }
         requires none_spare { HasNoSpare self.old }
         requires room { length self.old.pages < self.old.limit }
         ensures added { IfOk result (λ page. (page ≡ length self.old.pages) × (self.new ≡ with_page self.old page pool)) }
+        ensures swept { IfOk result (λ page. is_unswept self.old page ≡ false) }
         ensures failed { OnErr result ((result ≡ Err PageFault.NoMemory) × (self.new ≡ self.old)) }
     {
         let slots = slot_count(pool);
+        let pages = self.pools.page_count() as usize;
+        let Ok(()) = reserve_places(&mut self.grey, pages + 1) else {
+            return Err(PageFault::NoMemory);
+        };
         let made = match Marks::new(self.alloc, slots) {
             Ok(made) => made,
             Err(_) => return Err(PageFault::NoMemory),
@@ -404,6 +426,7 @@ impl Heap {
         ensures next { IfOk result (IsLeastSpare self.old) }
         ensures added { IfOk result (λ page. self.new ≡ with_page self.old page pool) }
         ensures blank { IfOk result (λ page. page_at self.old page ≡ no_page) }
+        ensures swept { IfOk result (λ page. is_unswept self.old page ≡ false) }
         ensures at_limit { (result ≡ Err PageFault.AtLimit) ↔ HasNoSpare self.old }
         ensures none_spare { OnErr result (HasNoSpare self.old) }
         ensures failed { OnErr result (self.new ≡ self.old) }
@@ -425,6 +448,7 @@ impl Heap {
         requires { pool < POOLS }
         ensures next { IfOk result (IsNextPage self.old) }
         ensures blank { IfOk result (λ page. page_at self.old page ≡ no_page) }
+        ensures swept { IfOk result (λ page. is_unswept self.old page ≡ false) }
         ensures added { IfOk result (λ page. self.new ≡ with_page self.old page pool) }
         ensures at_limit { (result ≡ Err PageFault.AtLimit) ↔ IsAtLimit self.old }
         ensures none_spare { OnErr result (HasNoSpare self.old) }

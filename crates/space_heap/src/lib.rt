@@ -4,9 +4,11 @@
 mod birth;
 mod colour;
 mod heap;
+mod mark_stack;
 mod marks;
 mod object_words;
 mod slot_place;
+mod sweeps;
 
 pub use colour::Colour;
 pub use heap::{Heap, Made, PlaceFault};

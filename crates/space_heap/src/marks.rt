@@ -1,7 +1,8 @@
 // The planes of one page, which tell all of its slots but their words.
-ghost use Rattle.std.specs.Prelude.{◌≡◌, ◌<◌, ◌≤◌, ℕ, true, false, [], ◌∷◌, ◌++◌, not, ◌&&◌, length, slice_set, vec_capacity, IfOk, MatchOption};
+ghost use Rattle.std.specs.Prelude.{◌≡◌, ◌<◌, ◌≤◌, ℕ, true, false, [], ◌∷◌, ◌++◌, not, ◌&&◌, length, map, slice_set, vec_capacity, IfOk, MatchOption};
 ghost use Rattle.space_planes.specs.Planes.{bit};
 ghost use Rattle.space_heap.specs.MarkPlanes.{clear_marks, AreWide, born_marks, traits_from, marks_at, guard_from, is_unprotected, colour_from, age_from};
+ghost use Rattle.space_heap.specs.PaintedMarks.{painted_marks, unmarked_marks};
 ghost use Rattle.space_heap.specs.NextObject.{IsAbsentFrom, IsFirstPresent};
 
 use crate::colour::Colour;
@@ -79,6 +80,18 @@ fn write_guard(plane: &mut Plane, s: u32, guard: Guard)
     }
 }
 
+// Writes the bit of the colour of a marked object.
+fn write_black(plane: &mut Plane, s: u32, black: bool)
+    requires { s < length plane.old }
+    ensures { plane.new ≡ slice_set plane.old s black }
+{
+    if black {
+        plane.set(s);
+    } else {
+        plane.clear(s);
+    }
+}
+
 // The planes of a page.
 pub fn marks_of(marks: &Vec<Marks>, page: u32) -> &Marks
     requires { page < length marks.now.items }
@@ -96,6 +109,27 @@ pub fn begin_slot(marks: &mut Vec<Marks>, page: u32, slot: u32, guard: Guard)
     ensures room { vec_capacity marks.new ≡ vec_capacity marks.old }
 {
     marks[page as usize].begin(slot, guard);
+}
+
+// Makes the object of a slot of a page grey, or black.
+pub fn paint_slot(marks: &mut Vec<Marks>, page: u32, slot: u32, black: bool)
+    requires there { page < length marks.old.items }
+    requires wide { AreWide (marks_at marks.old.items page) (length (marks_at marks.old.items page).object) }
+    requires within { slot < length (marks_at marks.old.items page).object }
+    ensures items { marks.new.items ≡ slice_set marks.old.items page (painted_marks (marks_at marks.old.items page) slot black) }
+    ensures room { vec_capacity marks.new ≡ vec_capacity marks.old }
+{
+    marks[page as usize].paint(slot, black);
+}
+
+// Takes all marks of a marking away.
+pub fn unmark_pages(marks: &mut Vec<Marks>)
+    ensures items { marks.new.items ≡ map unmarked_marks marks.old.items }
+    ensures room { vec_capacity marks.new ≡ vec_capacity marks.old }
+{
+    for page in 0..marks.len() {
+        marks[page].unmark();
+    }
 }
 
 // Makes the planes of a page those of a page of so many slots, without a mark.
@@ -175,6 +209,26 @@ impl Marks {
         self.kept.clear(s);
         self.pinned.clear(s);
         self.dead.clear(s);
+    }
+
+    // Makes the object of the slot grey, or black.
+    pub fn paint(&mut self, s: u32, black: bool)
+        requires wide { AreWide self.old (length self.old.object) }
+        requires within { s < length self.old.object }
+        ensures { self.new ≡ painted_marks self.old s black }
+    {
+        self.marked.set(s);
+        write_black(&mut self.black, s, black);
+    }
+
+    // Makes every object white, and neither remembered nor kept.
+    pub fn unmark(&mut self)
+        ensures { self.new ≡ unmarked_marks self.old }
+    {
+        self.marked.fill(false);
+        self.black.fill(false);
+        self.remembered.fill(false);
+        self.kept.fill(false);
     }
 
     // Whether the slot holds an object that isn't gone.

@@ -79,6 +79,19 @@ fresh_slot s fields address h = ⊎_elim
     (λ (none, next, below). on_page s (pool_for fields) fresh.page address (has_slot fields) (omega arith) below (ap (pool_at s.heap.pages) next ∙ past s.heap.pages) fresh.is h.placed)
     fresh.fresh)
 
+-- no corpse lies at the place of a birth
+pub fresh_corpse : (s : State) (fields address : ℕ) → AreSlots s.graph s.heap.pages s.heap.corpses → IsBirthPlace s (pool_for fields) address → (name : ℕ) → get s.heap.corpses name ≢ Some address
+fresh_corpse s fields address buried h name e = ⊎_elim
+    (λ new. new.free.no_corpse name e)
+    (λ fresh.
+    let on : page_of address ≡ fresh.page = ap page_of fresh.is ∙ page_of-slot_address fresh.page (pool_for fields) 0 (has_slot fields) in
+    let has : pool_at s.heap.pages fresh.page ≡ Some (pool_of s.graph name) = ap (pool_at s.heap.pages) (sym on) ∙ held_pool s.graph s.heap.pages name address (buried.at name address e) in
+    ⊎_elim
+    (λ (spare, least). let f : None ≡ Some (pool_of s.graph name) = sym spare.1 ∙ has in cc)
+    (λ (none, next, below). let f : None ≡ Some (pool_of s.graph name) = sym (ap (pool_at s.heap.pages) next ∙ past s.heap.pages) ∙ has in cc)
+    fresh.fresh)
+    h
+
 module _ (s : State) (root : List ℕ) (fields : ℕ) (guard : Guard) (style : Style) (address : ℕ) (h : SoundLayout s.graph s.heap.place s.heap.pages s.heap.limit) (f : IsFreshSlot s (pool_for fields) address) where
   abbrev graph' : List Item
   graph' = s.graph ++ new_item guard style fields ∷ []
@@ -99,8 +112,9 @@ module _ (s : State) (root : List ℕ) (fields : ℕ) (guard : Guard) (style : S
       (λ other. grind (arith, nat_tests, p, other))
       (cases_eq (page_of a) (page_of address))
 
-  stay : (map : FinMap nat_cmp ℕ) → AreSlots s.graph s.heap.pages map → AreSlots graph' pages' map
-  stay map m = AreSlots-same s.graph graph' s.heap.pages pages' map (let l = longer in omega arith) (λ n a b. ap (λ (item : Item). pool_for (length item.values)) (item_of-push s.graph (new_item guard style fields) n a b)) (pools map m) m
+  -- a map stays one of slots
+  pub slots_stay : (map : FinMap nat_cmp ℕ) → AreSlots s.graph s.heap.pages map → AreSlots graph' pages' map
+  slots_stay map m = AreSlots-same s.graph graph' s.heap.pages pages' map (let l = longer in omega arith) (λ n a b. ap (λ (item : Item). pool_for (length item.values)) (item_of-push s.graph (new_item guard style fields) n a b)) (pools map m) m
 
   new_slot : IsSlotOf graph' pages' (length s.graph + 1) address
   new_slot =
@@ -117,6 +131,6 @@ module _ (s : State) (root : List ℕ) (fields : ℕ) (guard : Guard) (style : S
 
   pub SoundLayout-born : SoundLayout graph' (insert s.heap.place (length s.graph + 1) address) pages' s.heap.limit
   SoundLayout-born = record {
-    placed = AreSlots-insert graph' pages' s.heap.place (length s.graph + 1) address (omega arith) longer new_slot f.no_place (stay s.heap.place h.placed);
+    placed = AreSlots-insert graph' pages' s.heap.place (length s.graph + 1) address (omega arith) longer new_slot f.no_place (slots_stay s.heap.place h.placed);
     limited = length-with_pool s.heap.pages (page_of address) (pool_for fields) s.heap.limit f.limited h.limited f.below;
   }

@@ -1,4 +1,4 @@
--- Every born name is present, what is present has present children, and roots hold what is present.
+-- What is present has present children, and roots hold what is present.
 use Rattle.std.proofs.Common.{◌≡◌, ◌≢◌, ◌⊎◌, ℕ, zero, suc, ◌+◌, ◌-◌, ◌<◌, ◌≤◌, true, List, [], ◌∷◌, ◌++◌, length, nat_eq, get_or, set, refl, sym, ap, ◌∙◌, arith, ⊎_elim, inl, inr}
 use Rattle.std.specs.Prelude.{is_some, replicate}
 use Rattle.std.specs.List.{flat_map}
@@ -8,7 +8,7 @@ use Rattle.std.specs.Ordering.{nat_cmp}
 use Rattle.std.specs.FinMap.{FinMap, get, insert}
 use Rattle.std.proofs.lemmas.Bool.{cases_Bool, cases_eq, false≢true}
 use Rattle.std.proofs.lemmas.Bool.Decides.{nat_tests}
-use Rattle.std.proofs.lemmas.List.{length-append, length-set, get_or-set_same, get_or-set_other}
+use Rattle.std.proofs.lemmas.List.{length-set, get_or-set_same, get_or-set_other}
 use Rattle.space_model.specs.declared.object.Guard.{Guard}
 use Rattle.space_model.specs.declared.object.Style.{Style}
 use Rattle.space_model.specs.declared.value.Value.{Value}
@@ -17,9 +17,9 @@ use Rattle.space_model.specs.Graph.{Item, no_item, item_of, names_of, children, 
 use Rattle.space_model.specs.Layout.{pool_for}
 use Rattle.space_model.specs.Pieces.{new_item, born, item_stored}
 use Rattle.space_model.specs.Roots.{Root, root_names, with_root, without_root}
-use Rattle.space_model.specs.Sound.{AreSlots, SoundNames, SoundLayout}
+use Rattle.space_model.specs.Sound.{AreSlots, SoundNames, SoundLayout, SoundCorpses}
 use Rattle.space_model.specs.State.{State}
-use Rattle.space_model.proofs.MapLaws.{get-insert_name, present-insert, present-new, some_get}
+use Rattle.space_model.proofs.MapLaws.{get-insert_name, present-insert, some_get}
 use Rattle.space_model.proofs.Members.{member_cases, member_left, member_right}
 use Rattle.space_model.proofs.SlotLaws.{item_of-push, item_of-new, AreSlots-same}
 
@@ -31,7 +31,7 @@ children-new : (graph : List Item) (guard : Guard) (style : Style) (fields : ℕ
 unfolding children
 children-new graph guard style fields = ap (λ (item : Item). flat_map names_of item.values) (item_of-new graph (new_item guard style fields)) ∙ no_names fields
 
-children-push : (graph : List Item) (item : Item) (name : ℕ) → 0 < name → name ≤ length graph → children (graph ++ item ∷ []) name ≡ children graph name
+pub children-push : (graph : List Item) (item : Item) (name : ℕ) → 0 < name → name ≤ length graph → children (graph ++ item ∷ []) name ≡ children graph name
 unfolding children
 children-push graph item name some born = ap (λ (item : Item). flat_map names_of item.values) (item_of-push graph item name some born)
 
@@ -65,7 +65,6 @@ root_names-without_root (r ∷ roots) root n m = ⊎_elim
 -- a root was written, with a value that is present
 pub SoundNames-rooted : (graph : List Item) (roots : List Root) (place : FinMap nat_cmp ℕ) (root : List ℕ) (value : Value) → ((n : ℕ) → is_member nat_eq (names_of value) n ≡ true → is_some (get place n) ≡ true) → SoundNames graph roots place → SoundNames graph (with_root roots root value) place
 SoundNames-rooted graph roots place root value present h = record {
-  born_present = h.born_present;
   children_present = h.children_present;
   roots_present = λ n m. ⊎_elim (λ a. present n a) (λ b. h.roots_present n b) (root_names-with_root roots root value n m);
 }
@@ -73,7 +72,6 @@ SoundNames-rooted graph roots place root value present h = record {
 -- a root was taken away
 pub SoundNames-unrooted : (graph : List Item) (roots : List Root) (place : FinMap nat_cmp ℕ) (root : List ℕ) → SoundNames graph roots place → SoundNames graph (without_root roots root) place
 SoundNames-unrooted graph roots place root h = record {
-  born_present = h.born_present;
   children_present = h.children_present;
   roots_present = λ n m. h.roots_present n (root_names-without_root roots root n m);
 }
@@ -87,11 +85,6 @@ module _ (s : State) (root : List ℕ) (fields : ℕ) (guard : Guard) (style : S
 
   pub SoundNames-born : SoundNames graph' (with_root s.roots root (Name new)) (insert s.heap.place new address)
   SoundNames-born = record {
-    born_present = λ n some long. ⊎_elim
-        (λ same. present-new s.heap.place new address n same)
-        (λ other. let e = length-append s.graph (new_item guard style fields ∷ []) in
-        present-insert s.heap.place new address n (h.born_present n some (omega arith)))
-        (cases_eq n new);
     children_present = λ m n p c. ⊎_elim
         (λ same. let e : children graph' m ≡ [] = ap (children graph') same ∙ children-new s.graph guard style fields in absurd (false≢true (sym (ap (λ xs. is_member nat_eq xs n) e) ∙ c)))
         (λ other. let g = get-insert_name s.heap.place new address m in
@@ -150,7 +143,6 @@ module _ (s : State) (name index : ℕ) (value : Value) (l : AreSlots s.graph s.
 
   pub SoundNames-stored : ((n : ℕ) → is_member nat_eq (names_of value) n ≡ true → is_some (get s.heap.place n) ≡ true) → SoundNames s.graph s.roots s.heap.place → SoundNames stored_graph s.roots s.heap.place
   SoundNames-stored present h = record {
-    born_present = λ n some_n le. h.born_present n some_n (let e = long in omega arith);
     children_present = λ m n p c. let a = some_get (get s.heap.place m) p in let b = l.born m a.0 a.1 in
         ⊎_elim (λ k. h.children_present m n p k) (λ k. present n k) (child_cases m n b.0 c);
     roots_present = h.roots_present;
@@ -160,4 +152,12 @@ module _ (s : State) (name index : ℕ) (value : Value) (l : AreSlots s.graph s.
   SoundLayout-stored h = record {
     placed = AreSlots-same s.graph stored_graph s.heap.pages s.heap.pages s.heap.place (let e = long in omega arith) (λ n a _. ap pool_for (shape n a)) (λ n a _. refl) h.placed;
     limited = h.limited;
+  }
+
+  pub SoundCorpses-stored : SoundCorpses s.graph s.heap.place s.heap.corpses s.heap.pages s.heap.unswept → SoundCorpses stored_graph s.heap.place s.heap.corpses s.heap.pages s.heap.unswept
+  SoundCorpses-stored h = record {
+    buried = AreSlots-same s.graph stored_graph s.heap.pages s.heap.pages s.heap.corpses (let e = long in omega arith) (λ n a _. ap pool_for (shape n a)) (λ n a _. refl) h.buried;
+    gone = h.gone;
+    apart = h.apart;
+    on_unswept = h.on_unswept;
   }

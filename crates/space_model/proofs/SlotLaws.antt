@@ -1,5 +1,7 @@
 -- Maps whose names stand at slots of their own.
-use Rattle.std.proofs.Common.{◌≡◌, ◌≢◌, ℕ, ◌+◌, ◌-◌, ◌<◌, ◌≤◌, List, [], ◌∷◌, ◌++◌, length, get_or, sym, ap, ◌∙◌, subst, arith, Option, Some, ⊎_elim}
+use Rattle.std.proofs.Common.{◌≡◌, ◌≢◌, ℕ, ◌+◌, ◌-◌, ◌<◌, ◌≤◌, true, nat_eq, List, [], ◌∷◌, ◌++◌, length, get_or, sym, ap, ◌∙◌, subst, arith, Option, Some, ⊎_elim}
+use Rattle.std.specs.Prelude.{is_some}
+use Rattle.std.specs.Set.{is_member}
 use Rattle.std.specs.Ordering.{nat_cmp}
 use Rattle.std.specs.FinMap.{FinMap, get, insert}
 use Rattle.std.proofs.lemmas.Bool.{cases_eq}
@@ -10,7 +12,8 @@ use Rattle.space_model.specs.Layout.{page_of, slot_address, page_slots}
 use Rattle.space_model.specs.Graph.{Item, no_item, item_of}
 use Rattle.space_model.specs.Pages.{pool_at}
 use Rattle.space_model.specs.Sound.{pool_of, IsSlotOf, AreSlots}
-use Rattle.space_model.proofs.MapLaws.{get-insert_name}
+use Rattle.space_model.specs.Maps.{moved_over}
+use Rattle.space_model.proofs.MapLaws.{get-insert_name, held_over}
 use Rattle.space_model.proofs.PageLaws.{page_of-slot_address}
 
 pub item_of-push : (graph : List Item) (item : Item) (name : ℕ) → 0 < name → name ≤ length graph → item_of (graph ++ item ∷ []) name ≡ item_of graph name
@@ -43,6 +46,25 @@ AreSlots-same graph graph' pages pages' map long same pools h = record {
   born = λ n a e. let b = h.born n a e in (b.0, omega arith);
   at = λ n a e. let b = h.born n a e in IsSlotOf-same graph graph' pages pages' n a (same n b.0 b.1) (pools n a e) (h.at n a e);
   once = h.once;
+}
+
+-- fewer names
+pub AreSlots-part : (graph : List Item) (pages : List (Option ℕ)) (map part : FinMap nat_cmp ℕ) → ((name address : ℕ) → get part name ≡ Some address → get map name ≡ Some address) → AreSlots graph pages map → AreSlots graph pages part
+AreSlots-part graph pages map part sub h = record {
+  born = λ n a e. h.born n a (sub n a e);
+  at = λ n a e. h.at n a (sub n a e);
+  once = λ n k a e f. h.once n k a (sub n a e) (sub k a f);
+}
+
+-- names of one map join another, from which it is apart
+pub AreSlots-over : (graph : List Item) (pages : List (Option ℕ)) (from to : FinMap nat_cmp ℕ) (names : List ℕ) → ((name : ℕ) → is_member nat_eq names name ≡ true → is_some (get from name) ≡ true) → ((name other address : ℕ) → get from name ≡ Some address → get to other ≡ Some address → ⊥) → AreSlots graph pages from → AreSlots graph pages to → AreSlots graph pages (moved_over from to names)
+AreSlots-over graph pages from to names present apart h k = record {
+  born = λ n a e. ⊎_elim (λ c. h.born n a c.0) (λ c. k.born n a c.0) (held_over from to names n a present e);
+  at = λ n a e. ⊎_elim (λ c. h.at n a c.0) (λ c. k.at n a c.0) (held_over from to names n a present e);
+  once = λ n q a e f. ⊎_elim
+      (λ c. ⊎_elim (λ d. h.once n q a c.0 d.0) (λ d. absurd (apart n q a c.0 d.0)) (held_over from to names q a present f))
+      (λ c. ⊎_elim (λ d. absurd (apart q n a d.0 c.0)) (λ d. k.once n q a c.0 d.0) (held_over from to names q a present f))
+      (held_over from to names n a present e);
 }
 
 -- one more name, at an address of its own

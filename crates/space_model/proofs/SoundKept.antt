@@ -1,13 +1,14 @@
 -- The opening is sound, and lawful commands keep states so.
-use Rattle.std.proofs.Common.{◌≡◌, ℕ, ◌+◌, ◌≤◌, true, List, [], ◌∷◌, ◌++◌, length, nat_eq, refl, sym, ◌∙◌, subst, arith, ⊎_elim, Option, None, Some, Result, Ok, Err}
+use Rattle.std.proofs.Common.{◌≡◌, ℕ, ◌+◌, ◌-◌, ◌≤◌, true, List, [], ◌∷◌, ◌++◌, length, nat_eq, refl, sym, ◌∙◌, subst, arith, ⊎_elim, Option, None, Some, Result, Ok, Err}
 use Rattle.std.specs.Prelude.{is_some}
 use Rattle.std.specs.List.{IsDistinct}
 use Rattle.std.specs.Set.{is_member}
 use Rattle.std.specs.Ordering.{nat_cmp}
 use Rattle.std.specs.FinMap.{FinMap, get, keys, empty, get-empty}
 use Rattle.std.proofs.lemmas.Bool.{false≢true, and_parts}
+use Rattle.std.proofs.lemmas.List.{length-append, length-set}
 use Rattle.space_model.specs.declared.command.Command.{Command}
-use Rattle.space_model.specs.declared.command.Command.TheVariants.{New, Set, DropRoot, Push, Raw, Pop, Store, Load, Same}
+use Rattle.space_model.specs.declared.command.Command.TheVariants.{New, Set, DropRoot, Push, Raw, Pop, Store, Load, Same, Gc}
 use Rattle.space_model.specs.declared.command.Input.{Input}
 use Rattle.space_model.specs.declared.command.Operand.{Operand}
 use Rattle.space_model.specs.declared.object.Guard.{Guard}
@@ -19,27 +20,30 @@ use Rattle.space_model.specs.declared.reply.Reply.TheVariants.{Made, Full, NoMem
 use Rattle.space_model.specs.declared.value.Value.{Value}
 use Rattle.space_model.specs.declared.value.Value.TheVariants.{Name}
 use Rattle.space_model.specs.Answers.{WritesRoot, SetReply, DropReply, LoadReply, StoreReply, field_value, written_field}
-use Rattle.space_model.specs.Graph.{IsChild}
+use Rattle.space_model.specs.Graph.{IsChild, item_of}
 use Rattle.space_model.specs.Lawful.{Effects, Lawful, LawfulAll}
-use Rattle.space_model.specs.Layout.{pool_for}
+use Rattle.space_model.specs.Layout.{page_of, pool_for}
 use Rattle.space_model.specs.Moments.{noted, parents_of_young_in}
 use Rattle.space_model.specs.New.{IsBirthPlace, NewReply}
 use Rattle.space_model.specs.Operands.{operand_value, input_value}
 use Rattle.space_model.specs.Outputs.{Output}
-use Rattle.space_model.specs.Pieces.{born, rooted, unrooted, stacked, stored}
+use Rattle.space_model.specs.Pieces.{new_item, item_stored, born, rooted, unrooted, stacked, stored}
 use Rattle.space_model.specs.Reach.{IsStart, Reach}
 use Rattle.space_model.specs.Roots.{root_names, root_value}
-use Rattle.space_model.specs.Sound.{Sound, SoundNames, SoundLayout, AreSoundItems, AreSoundRoots, IsSmall, IsSmallInput, IsGivenSmall, AreGivenSmall}
+use Rattle.space_model.specs.Sound.{AreSlots, Sound, IsSmall, IsSmallInput, IsGivenSmall, AreGivenSmall}
 use Rattle.space_model.specs.StackAnswers.{Raws, PushReply, Pops}
 use Rattle.space_model.specs.State.{State, opening}
-use Rattle.space_model.proofs.LayoutKept.{fresh_slot, SoundLayout-born}
+use Rattle.space_model.proofs.AfterPieces.{after_piece}
+use Rattle.space_model.proofs.CorpsesKept.{SoundCorpses-born}
+use Rattle.space_model.proofs.LayoutKept.{fresh_slot, fresh_corpse, SoundLayout-born}
 use Rattle.space_model.proofs.MapLaws.{some_get}
-use Rattle.space_model.proofs.NamesKept.{SoundNames-born, SoundNames-rooted, SoundNames-unrooted, SoundNames-stored, SoundLayout-stored}
-use Rattle.space_model.proofs.NotedLaws.{SoundMoments-noted}
+use Rattle.space_model.proofs.NamesKept.{SoundNames-born, SoundNames-rooted, SoundNames-unrooted, SoundNames-stored, SoundLayout-stored, SoundCorpses-stored}
+use Rattle.space_model.proofs.SweepKept.{SoundSweep-born, SoundUsed-born}
 use Rattle.space_model.proofs.Members.{member_filter}
 use Rattle.space_model.proofs.ReachedLaws.{member-keys}
 use Rattle.space_model.proofs.Reaching.{IsReached-least}
 use Rattle.space_model.proofs.ValuesHold.{input_holds, read_holds, write_holds}
+use Rattle.space_model.proofs.WholeLaws.{collects_sound}
 use Rattle.space_model.proofs.ValuesKept.{IsPresentValue, name_present, present_kept, small_kept, AreSoundItems-push, AreSoundItems-stored, AreSoundRoots-with_root, AreSoundRoots-without_root}
 
 abbrev none_yet : FinMap nat_cmp ℕ
@@ -67,24 +71,37 @@ no_parents : (name : ℕ) → is_member nat_eq (parents_of_young_in [] none_yet 
 unfolding parents_of_young_in
 no_parents name m = nothing_present name (sym (member-keys none_yet name) ∙ (and_parts _ _ (sym (member_filter _ (keys none_yet) name) ∙ m)).0)
 
+none_slots : AreSlots [] [] none_yet
+none_slots = record {
+  born = λ n a e. absurd (none_in_empty n a e);
+  at = λ n a e. absurd (none_in_empty n a e);
+  once = λ n k a e f. absurd (none_in_empty n a e);
+}
+
 pub Sound-opening : (limit : ℕ) → Sound (opening limit)
 unfolding IsDistinct
 Sound-opening limit = record {
-  layout = record {
-    placed = record {
-      born = λ n a e. absurd (none_in_empty n a e);
-      at = λ n a e. absurd (none_in_empty n a e);
-      once = λ n k a e f. absurd (none_in_empty n a e);
-    };
-    limited = omega arith;
+  layout = record { placed = none_slots; limited = omega arith };
+  corpses = record {
+    buried = none_slots;
+    gone = λ n a e. absurd (none_in_empty n a e);
+    apart = λ n k a e f. none_in_empty n a e;
+    on_unswept = λ n a e. absurd (none_in_empty n a e);
   };
+  sweep = record {
+    rising = λ i j d l m. absurd (omega arith);
+    have_pools = λ page m. absurd (false≢true m);
+    some = λ e. absurd (cc);
+    none = λ e. refl;
+  };
+  used = λ a b page e m. absurd (false≢true e);
   items = tt;
   roots = tt;
   names = record {
-    born_present = λ n some le. absurd (omega arith);
     children_present = λ m n p c. absurd (nothing_present m p);
     roots_present = λ n m. absurd (no_root n m);
   };
+  ages = refl;
   moments = record {
     seen = λ n r. absurd (nothing_reached limit n r);
     once = tt;
@@ -92,49 +109,78 @@ Sound-opening limit = record {
   };
 }
 
--- a state is sound after a piece, where its layout and its names are
-after_piece : (u t : State) → t ≡ noted u → SoundLayout u.graph u.heap.place u.heap.pages u.heap.limit → SoundNames u.graph u.roots u.heap.place → AreSoundItems u.graph → AreSoundRoots u.roots → IsDistinct nat_eq u.history.seen → Sound t
-after_piece u t e layout names items roots once = subst Sound (sym e) (record { layout = layout; names = names; items = items; roots = roots; moments = SoundMoments-noted u once })
-
 pub Sound-born : (s t : State) (root : List ℕ) (fields : ℕ) (guard : Guard) (style : Style) (address : ℕ) → fields ≤ 78 → IsBirthPlace s (pool_for fields) address → t ≡ noted (born s root fields guard style address) → Sound s → Sound t
 Sound-born s t root fields guard style address few place e h =
-    after_piece (born s root fields guard style address) t e
-    (SoundLayout-born s root fields guard style address h.layout (fresh_slot s fields address h.layout place))
-    (SoundNames-born s root fields guard style address h.layout.placed h.names)
-    (AreSoundItems-push s.graph guard style fields few h.items)
-    (AreSoundRoots-with_root s.roots root (Name (length s.graph + 1)) tt h.roots)
-    h.moments.once
+    let fresh = fresh_slot s fields address h.layout place in
+    let longer = length-append s.graph (new_item guard style fields ∷ []) in
+    let older = length-append s.collector.outlived (0 ∷ []) in
+    after_piece (born s root fields guard style address) t e (record {
+      layout = SoundLayout-born s root fields guard style address h.layout fresh;
+      corpses = SoundCorpses-born s root fields guard style address h.layout fresh (fresh_corpse s fields address h.corpses.buried place) h.corpses;
+      sweep = SoundSweep-born s.collector.phase s.heap.pages s.heap.unswept (page_of address) (pool_for fields) fresh.below h.sweep;
+      used = SoundUsed-born s.graph s.collector.phase s.heap.pages s.heap.unswept s.heap.place address (pool_for fields) fresh.below h.layout.placed h.used;
+      names = SoundNames-born s root fields guard style address h.layout.placed h.names;
+      items = AreSoundItems-push s.graph guard style fields few h.items;
+      roots = AreSoundRoots-with_root s.roots root (Name (length s.graph + 1)) tt h.roots;
+      ages = (let a = h.ages in omega arith);
+      once = h.moments.once;
+    })
 
 pub Sound-rooted : (s t : State) (root : List ℕ) (value : Value) → IsPresentValue s.heap.place value → IsSmall value → t ≡ noted (rooted s root value) → Sound s → Sound t
-Sound-rooted s t root value present small e h =
-    after_piece (rooted s root value) t e h.layout
-    (SoundNames-rooted s.graph s.roots s.heap.place root value present h.names)
-    h.items
-    (AreSoundRoots-with_root s.roots root value small h.roots)
-    h.moments.once
+Sound-rooted s t root value present small e h = after_piece (rooted s root value) t e (record {
+  layout = h.layout;
+  corpses = h.corpses;
+  sweep = h.sweep;
+  used = h.used;
+  names = SoundNames-rooted s.graph s.roots s.heap.place root value present h.names;
+  items = h.items;
+  roots = AreSoundRoots-with_root s.roots root value small h.roots;
+  ages = h.ages;
+  once = h.moments.once;
+})
 
 pub Sound-unrooted : (s t : State) (root : List ℕ) → t ≡ noted (unrooted s root) → Sound s → Sound t
-Sound-unrooted s t root e h =
-    after_piece (unrooted s root) t e h.layout
-    (SoundNames-unrooted s.graph s.roots s.heap.place root h.names)
-    h.items
-    (AreSoundRoots-without_root s.roots root h.roots)
-    h.moments.once
+Sound-unrooted s t root e h = after_piece (unrooted s root) t e (record {
+  layout = h.layout;
+  corpses = h.corpses;
+  sweep = h.sweep;
+  used = h.used;
+  names = SoundNames-unrooted s.graph s.roots s.heap.place root h.names;
+  items = h.items;
+  roots = AreSoundRoots-without_root s.roots root h.roots;
+  ages = h.ages;
+  once = h.moments.once;
+})
 
 -- any words may be on the stack
 pub Sound-stacked : (s t : State) (words : List ℕ) → t ≡ noted (stacked s words) → Sound s → Sound t
-Sound-stacked s t words e h = after_piece (stacked s words) t e h.layout h.names h.items h.roots h.moments.once
+Sound-stacked s t words e h = after_piece (stacked s words) t e (record {
+  layout = h.layout;
+  corpses = h.corpses;
+  sweep = h.sweep;
+  used = h.used;
+  names = h.names;
+  items = h.items;
+  roots = h.roots;
+  ages = h.ages;
+  once = h.moments.once;
+})
 
 pub Sound-stored : (s t : State) (name index : ℕ) (value : Value) → is_some (get s.heap.place name) ≡ true → IsPresentValue s.heap.place value → IsSmall value → t ≡ noted (stored s name index value) → Sound s → Sound t
 Sound-stored s t name index value there present small e h =
     let at = some_get (get s.heap.place name) there in
     let b = h.layout.placed.born name at.0 at.1 in
-    after_piece (stored s name index value) t e
-    (SoundLayout-stored s name index value h.layout.placed b.0 b.1 h.layout)
-    (SoundNames-stored s name index value h.layout.placed b.0 b.1 present h.names)
-    (AreSoundItems-stored s.graph name index value small h.items)
-    h.roots
-    h.moments.once
+    after_piece (stored s name index value) t e (record {
+      layout = SoundLayout-stored s name index value h.layout.placed b.0 b.1 h.layout;
+      corpses = SoundCorpses-stored s name index value h.layout.placed b.0 b.1 h.corpses;
+      sweep = h.sweep;
+      used = h.used;
+      names = SoundNames-stored s name index value h.layout.placed b.0 b.1 present h.names;
+      items = AreSoundItems-stored s.graph name index value small h.items;
+      roots = h.roots;
+      ages = h.ages ∙ sym (length-set s.graph (name - 1) (item_stored (item_of s.graph name) index value));
+      once = h.moments.once;
+    })
 
 new_sound : (s t : State) (root : List ℕ) (fields : ℕ) (guard : Guard) (style : Style) (reply : Reply) → NewReply s root fields guard style reply t → Sound s → Sound t
 new_sound s t root fields guard style (Made name address) e h = Sound-born s t root fields guard style address e.few e.place e.after h
@@ -202,6 +248,7 @@ effects_sound s t Pop events reply i e h = pop_sound s t reply e.1 h
 effects_sound s t (Store object index value) events reply i e h = store_sound s t object index value (written_field s.graph (operand_value s object) index (input_value s value)) reply i refl e.1 h
 effects_sound s t (Load root object index) events reply i e h = load_sound s t root object index (field_value s.graph (operand_value s object) index) reply refl e.1 h
 effects_sound s t (Same left right) events reply i e h = subst Sound (sym e.1.1) h
+effects_sound s t Gc events reply i e h = collects_sound s t events reply e h
 
 pub lawful_sound : (s t : State) (command : Command) (outputs : List Output) → IsGivenSmall command → Lawful s command outputs t → Sound s → Sound t
 lawful_sound s t command outputs i l h = effects_sound s t command l.events l.reply i l.effects h

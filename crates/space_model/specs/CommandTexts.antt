@@ -1,7 +1,7 @@
 -- How a command is spelled: its words with one space between two, numbers without leading zeros.
 use Rattle.std.specs.Prelude.{◌≡◌, ℕ, ◌<◌, ◌^◌, List, [], ◌∷◌, ◌++◌, codes}
 use Rattle.space_model.specs.declared.command.Command.{Command}
-use Rattle.space_model.specs.declared.command.Command.TheVariants.{New, Set, DropRoot, Push, Raw, Pop, Store, Load, Same}
+use Rattle.space_model.specs.declared.command.Command.TheVariants.{New, Set, DropRoot, Push, Raw, Pop, Store, Load, Same, Gc}
 use Rattle.space_model.specs.declared.command.Input.{Input}
 use Rattle.space_model.specs.declared.command.Input.TheVariants.{From, Nil, Small}
 use Rattle.space_model.specs.declared.command.Operand.{Operand}
@@ -40,6 +40,7 @@ command_pieces Pop = Say (codes "pop") ∷ []
 command_pieces (Store object index value) = Say (codes "store ") ∷ operand_pieces object ++ Say (codes " ") ∷ Number index ∷ Say (codes " ") ∷ input_pieces value
 command_pieces (Load root object index) = Say (codes "load ") ∷ Called root ∷ Say (codes " ") ∷ operand_pieces object ++ Say (codes " ") ∷ Number index ∷ []
 command_pieces (Same left right) = Say (codes "same ") ∷ operand_pieces left ++ Say (codes " ") ∷ operand_pieces right
+command_pieces Gc = Say (codes "gc") ∷ []
 
 -- the line of a command, without its LF
 abbrev pub command_text : Command → List ℕ
@@ -67,3 +68,4 @@ IsWritable Pop = Unit {0}
 IsWritable (Store object index value) = IsWritableOperand object × (index < 2 ^ 64) × IsWritableInput value
 IsWritable (Load root object index) = IsIdent root × IsWritableOperand object × (index < 2 ^ 64)
 IsWritable (Same left right) = IsWritableOperand left × IsWritableOperand right
+IsWritable Gc = Unit {0}

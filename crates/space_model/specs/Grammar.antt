@@ -4,7 +4,7 @@ use Rattle.std.specs.Option.{option_to_list}
 use Rattle.std.specs.List.{slice_split, All}
 use Rattle.std.specs.Str.Parse.{AllDigits, digits_value}
 use Rattle.space_model.specs.declared.command.Command.{Command}
-use Rattle.space_model.specs.declared.command.Command.TheVariants.{New, Set, DropRoot, Push, Raw, Pop, Store, Load, Same}
+use Rattle.space_model.specs.declared.command.Command.TheVariants.{New, Set, DropRoot, Push, Raw, Pop, Store, Load, Same, Gc}
 use Rattle.space_model.specs.declared.command.Input.{Input}
 use Rattle.space_model.specs.declared.command.Input.TheVariants.{From, Nil, Small}
 use Rattle.space_model.specs.declared.command.Operand.{Operand}
@@ -76,6 +76,8 @@ IsCommand words (Load root object index) =
     (a : List ℕ) × (digits : List ℕ) × (words ≡ codes "load" ∷ root ∷ a ∷ digits ∷ []) × IsIdent root × IsOperand a object × IsNumber digits index
 IsCommand words (Same left right) =
     (a : List ℕ) × (b : List ℕ) × (words ≡ codes "same" ∷ a ∷ b ∷ []) × IsOperand a left × IsOperand b right
+IsCommand words Gc =
+    words ≡ codes "gc" ∷ []
 
 -- a line that is no command and has no answer: it is empty, or begins with `;`
 abbrev pub IsBlank : List ℕ → Type 0

@@ -1,7 +1,7 @@
 -- Which outputs a command may have, and the state after it: one row a command.
 use Rattle.std.specs.Prelude.{◌≡◌, List, [], ◌∷◌, ◌++◌, map}
 use Rattle.space_model.specs.declared.command.Command.{Command}
-use Rattle.space_model.specs.declared.command.Command.TheVariants.{New, Set, DropRoot, Push, Raw, Pop, Store, Load, Same}
+use Rattle.space_model.specs.declared.command.Command.TheVariants.{New, Set, DropRoot, Push, Raw, Pop, Store, Load, Same, Gc}
 use Rattle.space_model.specs.declared.event.Event.{Event}
 use Rattle.space_model.specs.declared.reply.Reply.{Reply}
 use Rattle.space_model.specs.Answers.{Sets, DropsRoot, Stores, Loads, Compares}
@@ -9,6 +9,7 @@ use Rattle.space_model.specs.New.{News}
 use Rattle.space_model.specs.Outputs.{Output, Told, Replied}
 use Rattle.space_model.specs.StackAnswers.{Pushes, Raws, Pops}
 use Rattle.space_model.specs.State.{State}
+use Rattle.space_model.specs.WholeCollections.{Collects}
 
 -- the events and the reply of a command, and the state after it
 abbrev pub Effects : State → Command → List Event → Reply → State → Type 0
@@ -21,6 +22,7 @@ Effects s Pop events reply t = (events ≡ []) × Pops s reply t
 Effects s (Store object index value) events reply t = (events ≡ []) × Stores s object index value reply t
 Effects s (Load root object index) events reply t = (events ≡ []) × Loads s root object index reply t
 Effects s (Same left right) events reply t = (events ≡ []) × Compares s left right reply t
+Effects s Gc events reply t = Collects s events reply t
 
 -- the outputs are lawful for the command in the state s: events and then a reply, and t is the state after them
 pub record Lawful (s : State) (command : Command) (outputs : List Output) (t : State) : Type 0 where

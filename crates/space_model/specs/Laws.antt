@@ -1,11 +1,17 @@
 -- The laws of the definitions, which functions of this crate promise.
-use Rattle.std.specs.Prelude.{◌≡◌, ◌↔◌, ℕ, Bool, true, List, Option, nat_eq}
+use Rattle.std.specs.Prelude.{◌≡◌, ◌↔◌, ℕ, Bool, true, List, [], length, Option, nat_eq}
 use Rattle.std.specs.List.{IsDistinct}
 use Rattle.std.specs.Set.{is_member}
 use Rattle.space_model.specs.declared.command.Command.{Command}
 use Rattle.space_model.specs.declared.command.Input.{Input}
 use Rattle.space_model.specs.declared.command.Operand.TheVariants.{Word}
-use Rattle.space_model.specs.declared.reply.Reply.TheVariants.{Pushed}
+use Rattle.space_model.specs.declared.event.Event.{Event}
+use Rattle.space_model.specs.declared.event.Kind.{Kind}
+use Rattle.space_model.specs.declared.event.Kind.TheVariants.{Full}
+use Rattle.space_model.specs.declared.reply.Reply.TheVariants.{Pushed, Scanned}
+use Rattle.space_model.specs.declared.phase.Phase.TheVariants.{Idle}
+use Rattle.space_model.specs.Collections.{StartMark, Took, Sweep1, SweepAll}
+use Rattle.space_model.specs.Counts.{CountIs}
 use Rattle.space_model.specs.Graph.{IsChild}
 use Rattle.space_model.specs.Lawful.{Lawful, LawfulAll}
 use Rattle.space_model.specs.Moments.{noted, SameMoments}
@@ -15,8 +21,10 @@ use Rattle.space_model.specs.Reach.{Reach, IsStart}
 use Rattle.space_model.specs.Reached.{reached_names}
 use Rattle.space_model.specs.Sound.{Sound, SoundMoments, IsSmallInput, IsGivenSmall, AreGivenSmall}
 use Rattle.space_model.specs.StackAnswers.{Pushes}
-use Rattle.space_model.specs.State.{State, opening}
+use Rattle.space_model.specs.State.{State, is_present, opening}
 use Rattle.space_model.specs.Texts.{text_of, AreSpelled}
+use Rattle.space_model.specs.Verdicts.{IsVerdict}
+use Rattle.space_model.specs.WholeCollections.{IsCollection, Collects}
 
 -- what roots hold and stack words name is reached
 abbrev pub ReachHasStarts : Type 0
@@ -54,6 +62,50 @@ LawfulIsSound = (s t : State) (command : Command) (outputs : List Output) → Is
 
 abbrev pub LawfulAllIsSound : Type 0
 LawfulAllIsSound = (s t : State) (commands : List Command) (outputs : List Output) → AreGivenSmall commands → LawfulAll s commands outputs t → Sound s → Sound t
+
+-- the start of a marking leads from a sound state to a sound state
+abbrev pub StartMarkIsSound : Type 0
+StartMarkIsSound = (s t : State) → StartMark s t → Sound s → Sound t
+
+-- so does a verdict of any kind
+abbrev pub TookIsSound : Type 0
+TookIsSound = (s t : State) (kind : Kind) (taken : List ℕ) → IsVerdict s kind taken → Took s kind taken t → Sound s → Sound t
+
+-- the sweep of a page
+abbrev pub Sweep1IsSound : Type 0
+Sweep1IsSound = (s t : State) (freed : List ℕ) → Sweep1 s freed t → Sound s → Sound t
+
+-- and the sweep of all pages
+abbrev pub SweepAllIsSound : Type 0
+SweepAllIsSound = (s t : State) (freed : List ℕ) → SweepAll s freed t → Sound s → Sound t
+
+-- a sweep of all pages can always be made, and nothing waits for a sweep after it
+abbrev pub SweepAllEnds : Type 0
+SweepAllEnds = (s : State) → Sound s → (freed : List ℕ) × (t : State) × SweepAll s freed t × (t.heap.unswept ≡ [])
+
+-- what was seen when a marking started are the reached names, each once, so the length of that list is their number
+abbrev pub SeenAreReached : Type 0
+SeenAreReached = (s t : State) → StartMark s t → CountIs (Reach s) (length t.history.seen)
+
+-- after a verdict of any kind the same names are reached as before it
+abbrev pub ReachOutlivesVerdicts : Type 0
+ReachOutlivesVerdicts = (s t : State) (kind : Kind) (taken : List ℕ) → IsVerdict s kind taken → Took s kind taken t → (name : ℕ) → Reach t name ↔ Reach s name
+
+-- and after a full verdict the present names are exactly the reached ones
+abbrev pub FullLeavesReached : Type 0
+FullLeavesReached = (s t : State) (taken : List ℕ) → IsVerdict s Full taken → Took s Full taken t → Sound s → (name : ℕ) → (is_present t name ≡ true) ↔ Reach t name
+
+-- a whole collection scans each name once that was reached before it, and no other
+abbrev pub CollectionScansReached : Type 0
+CollectionScansReached = (s t : State) (events : List Event) (scans : ℕ) → IsCollection s events scans t → CountIs (Reach s) scans
+
+-- after `gc` the present names are exactly those that were reached before it
+abbrev pub GcLeavesReached : Type 0
+GcLeavesReached = (s t : State) (events : List Event) (scans : ℕ) → Collects s events (Scanned scans) t → Sound s → (name : ℕ) → (is_present t name ≡ true) ↔ Reach s name
+
+-- where nothing is under way, a sound state has a `gc`
+abbrev pub GcIsThere : Type 0
+GcIsThere = (s : State) → Sound s → s.collector.phase ≡ Idle → (events : List Event) × (scans : ℕ) × (t : State) × Collects s events (Scanned scans) t
 
 -- after a push the top of the stack has the value that was pushed
 abbrev pub PushedIsTop : Type 0

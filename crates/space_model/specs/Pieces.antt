@@ -18,7 +18,7 @@ use Rattle.space_model.specs.State.{State}
 abbrev pub new_item : Guard → Style → ℕ → Item
 new_item guard style fields = record { guard = guard; style = style; values = replicate fields Nil }
 
--- a new object stands at the address, the root holds it, and its page has the pool of its field count
+-- a new object stands at the address, the root holds it, and its page has the pool of its field count; it outlived no verdict
 abbrev pub born : State → List ℕ → ℕ → Guard → Style → ℕ → State
 born s root fields guard style address = record s {
   graph = s.graph ++ new_item guard style fields ∷ [];
@@ -27,6 +27,7 @@ born s root fields guard style address = record s {
     place = insert s.heap.place (length s.graph + 1) address;
     pages = with_pool s.heap.pages (page_of address) (pool_for fields);
   };
+  collector = record s.collector { outlived = s.collector.outlived ++ 0 ∷ [] };
 }
 
 abbrev pub Born : State → List ℕ → ℕ → Guard → Style → ℕ → State → Type 0

@@ -1,6 +1,6 @@
 -- What holds of every state that comes: the opening is sound, and each lawful command keeps it so.
-use Rattle.std.specs.Prelude.{◌≡◌, ℕ, ◌^◌, ◌<◌, ◌≤◌, true, List, [], ◌∷◌, length, nat_eq, Some, Option, is_some}
-use Rattle.std.specs.List.{IsDistinct}
+use Rattle.std.specs.Prelude.{◌≡◌, ◌≢◌, ℕ, ◌^◌, ◌<◌, ◌≤◌, true, false, List, [], ◌∷◌, length, nat_eq, None, Some, Option, is_some}
+use Rattle.std.specs.List.{AllPairs, IsDistinct}
 use Rattle.std.specs.Ordering.{nat_cmp}
 use Rattle.std.specs.Set.{is_member}
 use Rattle.std.specs.FinMap.{FinMap, get}
@@ -8,12 +8,14 @@ use Rattle.space_model.specs.declared.command.Command.{Command}
 use Rattle.space_model.specs.declared.command.Command.TheVariants.{Set, Push, Store}
 use Rattle.space_model.specs.declared.command.Input.{Input}
 use Rattle.space_model.specs.declared.command.Input.TheVariants.{From, Nil as NilInput, Small as SmallInput}
+use Rattle.space_model.specs.declared.phase.Phase.{Phase}
+use Rattle.space_model.specs.declared.phase.Phase.TheVariants.{Sweeping, Moving, Fixing}
 use Rattle.space_model.specs.declared.value.Value.{Value}
 use Rattle.space_model.specs.declared.value.Value.TheVariants.{Nil, Small, Name}
 use Rattle.space_model.specs.Graph.{Item, item_of, IsChild}
-use Rattle.space_model.specs.Layout.{slot_address, page_slots, pool_for}
+use Rattle.space_model.specs.Layout.{slot_address, page_slots, page_of, pool_for}
 use Rattle.space_model.specs.Moments.{parents_of_young}
-use Rattle.space_model.specs.Pages.{pool_at}
+use Rattle.space_model.specs.Pages.{pool_at, is_used}
 use Rattle.space_model.specs.Reach.{Reach}
 use Rattle.space_model.specs.Roots.{Root, root_names}
 use Rattle.space_model.specs.State.{State}
@@ -41,9 +43,27 @@ pub record SoundLayout (graph : List Item) (place : FinMap nat_cmp ℕ) (pages :
   pub placed : AreSlots graph pages place
   pub limited : length pages ≤ limit
 
--- every born name is present, until objects go; what is present has present children, and roots hold what is present
+-- corpses are born names that aren't present. They lie at slots of their own where nothing stands, on pages that wait for a sweep
+pub record SoundCorpses (graph : List Item) (place corpses : FinMap nat_cmp ℕ) (pages : List (Option ℕ)) (unswept : List ℕ) : Type 0 where
+  pub buried : AreSlots graph pages corpses
+  pub gone : (name address : ℕ) → get corpses name ≡ Some address → get place name ≡ None
+  pub apart : (name other address : ℕ) → get place name ≡ Some address → get corpses other ≡ Some address → ⊥
+  pub on_unswept : (name address : ℕ) → get corpses name ≡ Some address → is_member nat_eq unswept (page_of address) ≡ true
+
+-- the pages that wait for a sweep are ascending and have pools; in Sweeping there are some, and else there is none
+pub record SoundSweep (phase : Phase) (pages : List (Option ℕ)) (unswept : List ℕ) : Type 0 where
+  pub rising : AllPairs (λ page other. page < other) unswept
+  pub have_pools : (page : ℕ) → is_member nat_eq unswept page ≡ true → is_some (pool_at pages page) ≡ true
+  pub some : phase ≡ Sweeping → unswept ≢ []
+  pub none : phase ≢ Sweeping → unswept ≡ []
+
+-- outside a compaction an object stands on each page that has a pool and doesn't wait for a sweep
+abbrev pub SoundUsed : Phase → List (Option ℕ) → List ℕ → FinMap nat_cmp ℕ → Type 0
+SoundUsed phase pages unswept place =
+    phase ≢ Moving → phase ≢ Fixing → (page : ℕ) → is_some (pool_at pages page) ≡ true → is_member nat_eq unswept page ≡ false → is_used place page ≡ true
+
+-- what is present has present children, and roots hold what is present
 pub record SoundNames (graph : List Item) (roots : List Root) (place : FinMap nat_cmp ℕ) : Type 0 where
-  pub born_present : (name : ℕ) → 0 < name → name ≤ length graph → is_some (get place name) ≡ true
   pub children_present : (parent name : ℕ) → is_some (get place parent) ≡ true → IsChild graph parent name → is_some (get place name) ≡ true
   pub roots_present : (name : ℕ) → is_member nat_eq (root_names roots) name ≡ true → is_some (get place name) ≡ true
 
@@ -75,9 +95,13 @@ AreSoundRoots (root ∷ roots) = IsSmall root.1 × AreSoundRoots roots
 
 pub record Sound (s : State) : Type 0 where
   pub layout : SoundLayout s.graph s.heap.place s.heap.pages s.heap.limit
+  pub corpses : SoundCorpses s.graph s.heap.place s.heap.corpses s.heap.pages s.heap.unswept
+  pub sweep : SoundSweep s.collector.phase s.heap.pages s.heap.unswept
+  pub used : SoundUsed s.collector.phase s.heap.pages s.heap.unswept s.heap.place
   pub names : SoundNames s.graph s.roots s.heap.place
   pub items : AreSoundItems s.graph
   pub roots : AreSoundRoots s.roots
+  pub ages : length s.collector.outlived ≡ length s.graph
   pub moments : SoundMoments s
 
 -- each small integer that a command is given is below 2 ^ 62, as in every line of a trace

@@ -1,7 +1,7 @@
 -- The state of a space: plain numbers, lists and finite maps, with nothing of the collector's own data.
-use Rattle.std.specs.Prelude.{ℕ, List, [], Option}
+use Rattle.std.specs.Prelude.{ℕ, Bool, List, [], Option, is_some}
 use Rattle.std.specs.Ordering.{nat_cmp}
-use Rattle.std.specs.FinMap.{FinMap, empty}
+use Rattle.std.specs.FinMap.{FinMap, get, empty}
 use Rattle.space_model.specs.declared.phase.Phase.{Phase}
 use Rattle.space_model.specs.declared.phase.Phase.TheVariants.{Idle}
 use Rattle.space_model.specs.Graph.{Item}
@@ -90,3 +90,7 @@ opening limit = record {
   history = record { seen = []; mixed = []; began = []; scanned = 0 };
   counters = record { minor_verdicts = 0; other_verdicts = 0; freed = 0; compactions = 0; moves = 0 };
 }
+
+-- whether the name is present: it was born and isn't gone
+abbrev pub is_present : State → ℕ → Bool
+is_present s name = is_some (get s.heap.place name)

@@ -8,7 +8,7 @@ use Rattle.space_model.specs.declared.event.Kind.TheVariants.{Minor, Major, Full
 use Rattle.space_model.specs.declared.reply.Refusal.{Refusal}
 use Rattle.space_model.specs.declared.reply.Refusal.TheVariants.{TooLarge, NoRoot, NoWord, NotObject, NoField}
 use Rattle.space_model.specs.declared.reply.Reply.{Reply}
-use Rattle.space_model.specs.declared.reply.Reply.TheVariants.{Made, Full, NoMemory, Done, Pushed, Read, Truth, Refused}
+use Rattle.space_model.specs.declared.reply.Reply.TheVariants.{Made, Full, NoMemory, Done, Pushed, Read, Truth, Scanned, Refused}
 use Rattle.space_model.specs.declared.value.Value.{Value}
 use Rattle.space_model.specs.declared.value.Value.TheVariants.{Nil, Small, Name}
 use Rattle.space_model.specs.Outputs.{Output, Told, Replied}
@@ -51,6 +51,7 @@ reply_pieces Done = Say (codes "ok") ∷ []
 reply_pieces (Pushed word names) = Say (codes "word ") ∷ Hex word ∷ Say (codes " names ") ∷ named_pieces names
 reply_pieces (Read value) = value_pieces value
 reply_pieces (Truth answer) = Say (truth_text answer) ∷ []
+reply_pieces (Scanned count) = Say (codes "ok scanned ") ∷ Number count ∷ []
 reply_pieces (Refused why) = Say (refusal_text why) ∷ []
 
 abbrev pub output_pieces : Output → List Piece

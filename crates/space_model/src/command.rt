@@ -67,4 +67,6 @@ pub enum Command {
         left: Operand,
         right: Operand,
     },
+    /// A whole collection: what no root and no stack word leads to goes (`GC.start` of CRuby 3.3).
+    Gc,
 }

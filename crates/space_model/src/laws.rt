@@ -1,5 +1,5 @@
 // Laws of the definitions: functions that do nothing, and promise them.
-ghost use Rattle.space_model.specs.Laws.{ReachHasStarts, ReachIsClosed, ReachIsLeast, ReachIsListed, ReachIsListedOnce, NotingIsDone, NotingStays, OpeningIsSound, LawfulIsSound, LawfulAllIsSound, PushedIsTop, TextsDiffer};
+ghost use Rattle.space_model.specs.Laws.{ReachHasStarts, ReachIsClosed, ReachIsLeast, ReachIsListed, ReachIsListedOnce, NotingIsDone, NotingStays, OpeningIsSound, LawfulIsSound, LawfulAllIsSound, StartMarkIsSound, TookIsSound, Sweep1IsSound, SweepAllIsSound, SweepAllEnds, SeenAreReached, ReachOutlivesVerdicts, FullLeavesReached, CollectionScansReached, GcLeavesReached, GcIsThere, PushedIsTop, TextsDiffer};
 
 /// What is reached is the least set that has the starts, and with each name its children.
 pub fn reach_is_least()
@@ -21,6 +21,29 @@ pub fn states_are_sound()
     ensures opening { OpeningIsSound }
     ensures command { LawfulIsSound }
     ensures commands { LawfulAllIsSound }
+{}
+
+/// The pieces of a collection keep states sound, and a sweep can always be made.
+pub fn collections_are_sound()
+    ensures start { StartMarkIsSound }
+    ensures took { TookIsSound }
+    ensures swept { Sweep1IsSound }
+    ensures swept_all { SweepAllIsSound }
+    ensures ends { SweepAllEnds }
+{}
+
+/// Verdicts change nothing of what is reached, and a full one leaves nothing else.
+pub fn verdicts_keep_what_is_reached()
+    ensures seen { SeenAreReached }
+    ensures outlives { ReachOutlivesVerdicts }
+    ensures exact { FullLeavesReached }
+{}
+
+/// A whole collection can be made, scans what is reached, and leaves nothing else.
+pub fn collections_leave_what_is_reached()
+    ensures scans { CollectionScansReached }
+    ensures leaves { GcLeavesReached }
+    ensures possible { GcIsThere }
 {}
 
 /// The word of a value has that value, on the stack.

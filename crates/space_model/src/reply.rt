@@ -33,6 +33,8 @@ pub enum Reply {
     Read { value: Value },
     /// The answer to a question.
     Truth { yes: bool },
+    /// A marking was done with so many scans: each reads the fields of one object.
+    Scanned { count: u64 },
     /// The command was refused, and nothing was changed.
     Refused { why: Refusal },
 }

@@ -89,6 +89,14 @@ impl Plane {
         self.bits.fill(bit);
     }
 
+    /// Gives every bit the value that it has in another plane.
+    pub fn copy_from(&mut self, other: &Plane)
+        requires { length other.now ≡ length self.old }
+        ensures { self.new ≡ other.now }
+    {
+        self.bits.copy_from_slice(&other.bits);
+    }
+
     /// How many bits are 1.
     pub fn count(&self) -> u32
         ensures { result ≡ count_set self.now }
@@ -198,6 +206,8 @@ mod tests {
         assert!(rt; out.count() == 1 && out.get(1));
         left.or_into(&right, &mut out);
         assert!(rt; out.count() == 5);
+        out.copy_from(&left);
+        assert!(rt; out.count() == 2 && out.get(1));
         let places = [
             (left.first_set_from(1), Some(1)),
             (left.first_set_from(2), Some(3)),

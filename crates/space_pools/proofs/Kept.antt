@@ -1,17 +1,20 @@
 -- What holds of the pools still holds after a slot was lent, and what a new page makes of them.
-use Rattle.std.proofs.Common.{◌≡◌, ⊎_elim, ℕ, ◌+◌, ◌<◌, ◌≤◌, true, false, cond, List, [], ◌∷◌, ◌++◌, length, set, sym, ap, ◌∙◌, subst, arith, nat_lt}
+use Rattle.std.proofs.Common.{◌≡◌, ⊎_elim, ℕ, ◌+◌, ◌<◌, ◌≤◌, Bool, true, false, cond, List, [], ◌∷◌, ◌++◌, length, set, get_or, refl, sym, ap, ◌∙◌, subst, arith, nat_lt, Some}
+use Rattle.std.specs.Vec.{with_item}
 use Rattle.std.specs.Prelude.{is_none}
 use Rattle.std.proofs.lemmas.Bool.{cases_eq, cond-true, cond-false}
 use Rattle.std.proofs.lemmas.Bool.Decides.{nat_tests}
-use Rattle.std.proofs.lemmas.List.{length-set}
+use Rattle.std.proofs.lemmas.List.{length-set, get_or-set_same, get_or-set_other}
 use Rattle.std.proofs.lemmas.List.Sums.{sum_by-set}
-use Rattle.space_pools.specs.PageSlots.{PageSlots, spare_page, free_page, free_in, written_in}
-use Rattle.space_pools.specs.PoolsView.{PoolsView, page_at, pool_at, with_page, written_at}
+use Rattle.space_pools.specs.PageSlots.{PageSlots, spare_page, free_page, free_in, written_in, freed_in}
+use Rattle.space_pools.specs.PoolsView.{PoolsView, page_at, pool_at, unswept_at, with_page, written_at}
 use Rattle.space_pools.specs.Spare.{is_spare, spare_count, with_free_page}
 use Rattle.space_pools.specs.Sound.{IsSoundPage, IsSoundPools}
-use Rattle.space_pools.specs.InsidePools.{AreFullBelow}
+use Rattle.space_pools.specs.InsidePools.{AreFullBelow, view_from, ArePools}
+use Rattle.space_pools.specs.declared.pools.Pools.TheInside.{Inside}
 use Rattle.space_pools.proofs.PoolLaws.{page_at-with_page_same, page_at-with_page_other}
-use Rattle.space_pools.proofs.Written.{pool_written, free_written, sound_written}
+use Rattle.space_pools.proofs.Freed.{pool_freed, length-freed_in, freed_words}
+use Rattle.space_pools.proofs.Written.{pool_written, free_written, unswept_written, sound_written}
 
 pub sound_with_page : (v : PoolsView) (page : ℕ) (p : PageSlots) → page < length v.pages → IsSoundPage p → IsSoundPools v → IsSoundPools (with_page v page p)
 sound_with_page v page p within its h = record {
@@ -46,8 +49,14 @@ module _ (v : PoolsView) (page slot : ℕ) (ws : List ℕ) (here : page < length
       (λ other. ap (λ p. free_in p i) (page_at-with_page_other v page k (written_in (page_at v page) slot ws) other))
       (cases_eq k page)
 
+  same_unswept : (k : ℕ) → unswept_at w k ≡ unswept_at v k
+  same_unswept k = ⊎_elim
+      (λ same. ap (λ (p : PageSlots). p.unswept) (ap (page_at w) same ∙ page_at-with_page_same v page (written_in (page_at v page) slot ws) here) ∙ unswept_written (page_at v page) slot ws ∙ ap (unswept_at v) (sym same))
+      (λ other. ap (λ (p : PageSlots). p.unswept) (page_at-with_page_other v page k (written_in (page_at v page) slot ws) other))
+      (cases_eq k page)
+
   pub full_written_at : (cursors : List ℕ) → AreFullBelow v cursors → AreFullBelow w cursors
-  full_written_at cursors h pool k below its i = same_free k i ∙ h pool k below (sym (same_pool k) ∙ its) i
+  full_written_at cursors h pool k below its i swept = same_free k i ∙ h pool k below (sym (same_pool k) ∙ its) i (sym (same_unswept k) ∙ swept)
 
   pub spares_written_at : spare_count w ≡ spare_count v
   spares_written_at =
@@ -69,3 +78,52 @@ unfolding with_free_page
 next_page v pool =
     let e : nat_lt (length v.pages) (length v.pages) ≡ false = grind (arith, nat_tests) in
     λ i. record { limit = v.limit; pages = cond-false (nat_lt (length v.pages) (length v.pages)) (set v.pages (length v.pages) (free_page pool)) (v.pages ++ free_page pool ∷ []) e i }
+
+same_some : (a b : ℕ) → Some a ≡ Some b → a ≡ b
+same_some a b e = cc
+
+-- the pools after a page became another one of the pool, and the pool's cursor was lowered to it
+module _ (v : PoolsView) (page pool : ℕ) (q : PageSlots) (here : page < length v.pages) (its : q.pool ≡ Some pool) (cursors : List ℕ) (least : ℕ) (known : pool < length cursors) where
+  lowered : (k other : ℕ) → least ≤ get_or cursors pool 0 → k < get_or (set cursors pool least) other 0 → k < get_or cursors other 0
+  lowered k other lower below = ⊎_elim
+      (λ same. let e : get_or (set cursors pool least) other 0 ≡ least = ap (λ x. get_or (set cursors pool least) x 0) same ∙ get_or-set_same cursors pool least 0 known in let f : get_or cursors other 0 ≡ get_or cursors pool 0 = ap (λ x. get_or cursors x 0) same in omega arith)
+      (λ differ. let e : get_or (set cursors pool least) other 0 ≡ get_or cursors other 0 = get_or-set_other cursors pool other least 0 differ in omega arith)
+      (cases_eq other pool)
+
+  pub full_lowered : least ≤ get_or cursors pool 0 → least ≤ page → AreFullBelow v cursors → AreFullBelow (with_page v page q) (set cursors pool least)
+  full_lowered lower at h other k below own i swept = ⊎_elim
+      (λ same.
+      let o : other ≡ pool = same_some other pool (sym own ∙ ap (pool_at (with_page v page q)) same ∙ ap (λ (p : PageSlots). p.pool) (page_at-with_page_same v page q here) ∙ its) in
+      let e : get_or (set cursors pool least) other 0 ≡ least = ap (λ x. get_or (set cursors pool least) x 0) o ∙ get_or-set_same cursors pool least 0 known in
+      absurd (omega arith))
+      (λ differ.
+      let e : page_at (with_page v page q) k ≡ page_at v k = page_at-with_page_other v page k q differ in
+      ap (λ p. free_in p i) e ∙ h other k (lowered k other lower below) (sym (ap (λ (p : PageSlots). p.pool) e) ∙ own) i (sym (ap (λ (p : PageSlots). p.unswept) e) ∙ swept))
+      (cases_eq k page)
+
+  pub spares_same : pool_at v page ≡ Some pool → spare_count (with_page v page q) ≡ spare_count v
+  spares_same was =
+      let s : spare_count (with_page v page q) + one (page_at v page) ≡ spare_count v + one q = sum_by-set one v.pages page q spare_page here in
+      let e : one q ≡ one (page_at v page) = ap (λ pool. cond (is_none pool) 1 0) (its ∙ sym was) in
+      omega (arith, s, e)
+
+sound_freed : (p : PageSlots) (free : List Bool) (pool : ℕ) → p.pool ≡ Some pool → IsSoundPage p → IsSoundPage (freed_in p free)
+unfolding freed_in
+sound_freed p free pool its h = record {
+  known = h.known;
+  long = length-freed_in p free ∙ h.long;
+  wide = λ slot words e. h.wide slot words (freed_words p free slot words e);
+  swept = λ e. refl;
+}
+
+-- what holds of the pools after the slots of a plane became free on a page
+pub freed_pools : (h : Inside) (page pool least : ℕ) (free : List Bool) (p : PageSlots) → ArePools h → page < length h.pages.items → pool_at (view_from h) page ≡ Some pool → pool < length h.cursors → least ≤ get_or h.cursors pool 0 → least ≤ page → p ≡ freed_in (page_at (view_from h) page) free → ArePools (record h { pages = with_item h.pages page p; cursors = set h.cursors pool least })
+freed_pools h page pool least free p known here its within lower at is =
+    let v = view_from h in
+    let pool_is : p.pool ≡ Some pool = ap (λ (p : PageSlots). p.pool) is ∙ pool_freed (page_at v page) free ∙ its in
+    record {
+      sound = sound_with_page v page p here (subst IsSoundPage (sym is) (sound_freed (page_at v page) free pool its (known.sound.sound page))) known.sound;
+      room = known.room;
+      spares = known.spares ∙ sym (spares_same v page pool p here pool_is h.cursors least within its);
+      full = full_lowered v page pool p here pool_is h.cursors least within lower at known.full;
+    }

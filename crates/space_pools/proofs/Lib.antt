@@ -2,5 +2,6 @@ mod Pages
 mod Spreads
 mod Written
 mod Kept
+pub mod Freed
 pub mod Places
 pub mod PoolLaws

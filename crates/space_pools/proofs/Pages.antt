@@ -4,7 +4,7 @@ use Rattle.std.specs.Prelude.{◌*◌, ◌-◌, ◌++◌, take, drop, is_none, i
 use Rattle.std.specs.Simd.Lanes.{put_chunk}
 use Rattle.std.proofs.Math.Nat.{mul-le-mul_left}
 use Rattle.std.specs.List.{range_with_len}
-use Rattle.std.proofs.lemmas.Bool.{cases_eq, cases_lt, cond-true, cond-false}
+use Rattle.std.proofs.lemmas.Bool.{cases_eq, cases_lt, cases_Bool, cond-true, cond-false}
 use Rattle.std.proofs.lemmas.List.{get_or-set_same, get_or-set_other, length-set, length-replicate, get_or-replicate, get_or_past}
 use Rattle.std.proofs.lemmas.List.FromFn.{length-map-range_with_len, get_or-map-range_with_len, fill_by_all}
 use Rattle.space_model.specs.Layout.{page_slots, slot_bytes}
@@ -13,7 +13,7 @@ use Rattle.space_pages.specs.Slots.{words_of, slot_words, with_slot}
 use Rattle.space_pages.proofs.SlotLaws.{length-slot_words}
 use Rattle.space_pools.proofs.Spreads.{over, part_below, part_within, below_written, past_written, length-written}
 use Rattle.space_pools.specs.declared.pool_page.PoolPage.TheInside.{Inside}
-use Rattle.space_pools.specs.PageSlots.{PageSlots, HoldsSlots, width_of, spread, written_in, free_page, count_of, free_in, taken_in, found_in, with_found_in}
+use Rattle.space_pools.specs.PageSlots.{PageSlots, HoldsSlots, HasEachFree, freed_found, freed_in, width_of, spread, written_in, free_page, count_of, free_in, taken_in, found_in, with_found_in}
 use Rattle.space_pools.specs.Inside.{IsPoolPage, slot_on, found_from, page_from}
 
 pub length-slots : (p : Inside) → length (page_from p).slots ≡ length p.free
@@ -69,8 +69,8 @@ has_pool None slot h = absurd (omega arith)
 has_pool (Some pool) slot h = refl
 
 -- one slot changes
-pub one_slot : (p q : Inside) (slot : ℕ) (found : Option (List ℕ)) → q.pool ≡ p.pool → length q.free ≡ length p.free → slot < length p.free → found_from q slot ≡ found → ((k : ℕ) → k < length p.free → k ≢ slot → found_from q k ≡ found_from p k) → page_from q ≡ with_found_in (page_from p) slot found
-one_slot p q slot found pool long within here other =
+pub one_slot : (p q : Inside) (slot : ℕ) (found : Option (List ℕ)) → q.pool ≡ p.pool → q.unswept ≡ p.unswept → length q.free ≡ length p.free → slot < length p.free → found_from q slot ≡ found → ((k : ℕ) → k < length p.free → k ≢ slot → found_from q k ≡ found_from p k) → page_from q ≡ with_found_in (page_from p) slot found
+one_slot p q slot found pool unswept long within here other =
     let xs : List (Option (List ℕ)) = set (page_from p).slots slot found in
     let all : length xs ≡ length q.free = length-set (page_from p).slots slot found ∙ length-slots p ∙ sym long in
     let each : (k : ℕ) → k < length q.free → get_or xs k None ≡ found_from q k = λ k m. ⊎_elim
@@ -78,11 +78,11 @@ one_slot p q slot found pool long within here other =
     (λ d. get_or-set_other (page_from p).slots slot k found None d ∙ slot_is p k None (omega arith) ∙ sym (other k (omega arith) d))
     (cases_eq k slot) in
     let e : xs ≡ map (found_from q) (range_with_len 0 (length q.free)) = fill_by_all (found_from q) xs (length q.free) None all each in
-    λ i. record { pool = pool i; slots = sym e i }
+    λ i. record { pool = pool i; slots = sym e i; unswept = unswept i }
 
 -- every slot is free
-pub all_free : (q : Inside) (pool : ℕ) → q.pool ≡ Some pool → q.free ≡ replicate (page_slots pool) true → page_from q ≡ free_page pool
-all_free q pool its free =
+pub all_free : (q : Inside) (pool : ℕ) → q.pool ≡ Some pool → q.unswept ≡ false → q.free ≡ replicate (page_slots pool) true → page_from q ≡ free_page pool
+all_free q pool its swept free =
     let xs : List (Option (List ℕ)) = replicate (page_slots pool) None in
     let long : length q.free ≡ page_slots pool = ap length free ∙ length-replicate (page_slots pool) true in
     let all : length xs ≡ length q.free = length-replicate (page_slots pool) None ∙ sym long in
@@ -90,7 +90,31 @@ all_free q pool its free =
     let one : bit q.free k ≡ true = ap (λ plane. bit plane k) free ∙ get_or-replicate (page_slots pool) k true false (omega arith) in
     get_or-replicate (page_slots pool) k None None (omega arith) ∙ sym (cond-true (bit q.free k) None (Some (slot_on q.pool q.words k)) one) in
     let e : xs ≡ map (found_from q) (range_with_len 0 (length q.free)) = fill_by_all (found_from q) xs (length q.free) None all each in
-    λ i. record { pool = its i; slots = sym e i }
+    λ i. record { pool = its i; slots = sym e i; unswept = swept i }
+
+-- the slots of a plane become free
+pub freed : (p : Inside) (free : List Bool) (low : ℕ) → length free ≡ length p.free → HasEachFree (page_from p) free → page_from (record p { free = free; lowest = low; unswept = false }) ≡ freed_in (page_from p) free
+unfolding freed_in
+freed p free low long each =
+    let q : Inside = record p { free = free; lowest = low; unswept = false } in
+    let xs : List (Option (List ℕ)) = (page_from q).slots in
+    let n : ℕ = length (page_from p).slots in
+    let all : length xs ≡ n = length-slots q ∙ long ∙ sym (length-slots p) in
+    let one : (k : ℕ) → k < n → get_or xs k None ≡ freed_found (page_from p) free k = λ k h.
+    let l = length-slots p in
+    slot_is q k None (omega arith) ∙ ⊎_elim
+    (λ set. cond-true (bit free k) None (Some (slot_on p.pool p.words k)) set ∙ sym (cond-true (bit free k) None (found_in (page_from p) k) set))
+    (λ clear. cond-false (bit free k) None (Some (slot_on p.pool p.words k)) clear ∙ sym (found_is p k (omega arith) (still p free k each clear)) ∙ sym (cond-false (bit free k) None (found_in (page_from p) k) clear))
+    (cases_Bool (bit free k)) in
+    let e : xs ≡ map (freed_found (page_from p) free) (range_with_len 0 n) = fill_by_all (freed_found (page_from p) free) xs n None all one in
+    λ i. record { pool = p.pool; slots = e i; unswept = false }
+  where
+    -- a slot that isn't in the plane wasn't free
+    still : (p : Inside) (free : List Bool) (k : ℕ) → HasEachFree (page_from p) free → bit free k ≡ false → bit p.free k ≡ false
+    still p free k each clear = ⊎_elim
+        (λ set. absurd (true≢false (sym (each k (free_is p k ∙ set)) ∙ clear)))
+        (λ e. e)
+        (cases_Bool (bit p.free k))
 
 -- a page with no free slot from its start on
 pub full_from : (p : Inside) (slot : ℕ) → IsPoolPage p → length p.free ≤ p.lowest → bit p.free slot ≡ false
@@ -173,4 +197,4 @@ module _ (p : Inside) (pool slot : ℕ) (ws : List ℕ) (its : p.pool ≡ Some p
       let width : width_of p.pool ≡ n = ap width_of its in
       let all : length ys ≡ length p.free = length-written (width_of p.pool) slot ws xs ∙ length-slots p in
       let e : ys ≡ map (found_from after) (range_with_len 0 (length p.free)) = fill_by_all (found_from after) ys (length p.free) None all (λ k h. ap (λ m. get_or (take slot xs ++ spread m ws (drop slot xs)) k None) width ∙ each k h) in
-      λ i. record { pool = p.pool; slots = sym e i }
+      λ i. record { pool = p.pool; slots = sym e i; unswept = p.unswept }

@@ -1,12 +1,12 @@
 -- The first free slot of the lowest page of a pool is at the pool's least free address.
-use Rattle.std.proofs.Common.{◌≡◌, ◌⊎◌, inl, inr, ⊎_elim, ℕ, zero, suc, ◌+◌, ◌*◌, ◌<◌, ◌≤◌, true, true≢false, [], length, sym, ap, ◌∙◌, arith, None, Some}
+use Rattle.std.proofs.Common.{◌≡◌, ◌⊎◌, inl, inr, ⊎_elim, ℕ, zero, suc, ◌+◌, ◌*◌, ◌<◌, ◌≤◌, true, false, true≢false, [], length, sym, ap, ◌∙◌, arith, None, Some}
 use Rattle.std.specs.Prelude.{is_none, is_some}
 use Rattle.std.proofs.Math.Nat.{mul-le-mul_left}
 use Rattle.std.proofs.lemmas.Bool.{cases_lt, cases_eq}
 use Rattle.std.proofs.lemmas.List.{get_or_past}
 use Rattle.space_model.specs.Layout.{slot_bytes, page_slots, slot_address}
 use Rattle.space_pools.specs.PageSlots.{PageSlots, spare_page, free_in, taken_in, count_of}
-use Rattle.space_pools.specs.PoolsView.{PoolsView, page_at, pool_at, free_at}
+use Rattle.space_pools.specs.PoolsView.{PoolsView, page_at, pool_at, free_at, unswept_at}
 use Rattle.space_pools.specs.Free.{IsFreeAt, IsLeastFree, IsLowestPlace, TakesPlace, TakesLeast}
 use Rattle.space_pools.specs.Sound.{IsSoundPools}
 
@@ -87,9 +87,9 @@ module _ (v : PoolsView) (pool page slot : ℕ) (sound : IsSoundPools v) (known 
   pub place_within : slot < page_slots pool
   place_within = slot_within v pool page slot sound h.has_pool here
 
-  before : (f-page f-slot : ℕ) → pool_at v f-page ≡ Some pool → free_at v f-page f-slot ≡ true → (page < f-page) ⊎ ((page ≡ f-page) × (slot ≤ f-slot))
-  before f-page f-slot its free = ⊎_elim
-      (λ lower. absurd (true≢false (sym free ∙ h.below f-page lower its f-slot)))
+  before : (f-page f-slot : ℕ) → pool_at v f-page ≡ Some pool → free_at v f-page f-slot ≡ true → unswept_at v f-page ≡ false → (page < f-page) ⊎ ((page ≡ f-page) × (slot ≤ f-slot))
+  before f-page f-slot its free swept = ⊎_elim
+      (λ lower. absurd (true≢false (sym free ∙ h.below f-page lower its f-slot swept)))
       (λ upper. ⊎_elim
       (λ same. inr (
         same,
@@ -104,20 +104,20 @@ module _ (v : PoolsView) (pool page slot : ℕ) (sound : IsSoundPools v) (known 
 
   least : (address : ℕ) → address ≡ slot_address page pool slot → (other : ℕ) → IsFreeAt v pool other → address ≤ other
   least address is other f =
-      let o = address_order pool page slot f.page f.slot known place_within (before f.page f.slot f.has_pool f.is_free) in
+      let o = address_order pool page slot f.page f.slot known place_within (before f.page f.slot f.has_pool f.is_free f.is_swept) in
       let e = f.is in
       omega arith
 
   pub least_place : (address : ℕ) → address ≡ slot_address page pool slot → IsLeastFree v pool address
   least_place address is = record {
-    free = record { page = page; slot = slot; has_pool = h.has_pool; is_free = h.first.is_free; is = is };
+    free = record { page = page; slot = slot; has_pool = h.has_pool; is_free = h.first.is_free; is_swept = h.first.is_swept; is = is };
     least = least address is;
   }
 
   pub takes_least : (w : PoolsView) (address : ℕ) → address ≡ slot_address page pool slot → TakesPlace v w pool page slot → TakesLeast v w pool address
   takes_least w address is t = record {
     found = record {
-      free = record { page = page; slot = slot; has_pool = h.has_pool; is_free = h.first.is_free; is = is };
+      free = record { page = page; slot = slot; has_pool = h.has_pool; is_free = h.first.is_free; is_swept = h.first.is_swept; is = is };
       least = least address is;
     };
     words = t.words;

@@ -7,7 +7,7 @@ use Rattle.std.proofs.lemmas.Grind.{common_steps}
 use Rattle.std.proofs.lemmas.List.{get_or-set_same, get_or-set_other, length-set, length-replicate, get_or-replicate, get_or_past, get_or_default, set_past, set_split, drop_more}
 use Rattle.space_model.specs.Layout.{page_slots}
 use Rattle.space_pools.specs.PageSlots.{PageSlots, spare_page, free_page, free_in, found_in, with_found_in, width_of, count_of, written_in, spread}
-use Rattle.space_pools.specs.PoolsView.{PoolsView, page_at, pool_at, free_at, taken_at, found_at, with_page, with_slot_at, written_at}
+use Rattle.space_pools.specs.PoolsView.{PoolsView, page_at, pool_at, unswept_at, free_at, taken_at, found_at, with_page, with_slot_at, written_at}
 use Rattle.space_pools.specs.Spare.{with_free_page}
 use Rattle.space_pools.specs.Sound.{IsSoundPools}
 use Rattle.space_pools.proofs.Spreads.{spread_one}
@@ -41,6 +41,12 @@ pub pool_at-with_slot_at : (v : PoolsView) (page slot : ℕ) (found : Option (Li
 pool_at-with_slot_at v page slot found k = ⊎_elim
     (λ e. ap (λ (p : PageSlots). p.pool) e)
     (λ h. ap (λ (p : PageSlots). p.pool) h.1)
+    (page_at-with_slot_at v page slot found k)
+
+pub unswept_at-with_slot_at : (v : PoolsView) (page slot : ℕ) (found : Option (List ℕ)) (k : ℕ) → unswept_at (with_slot_at v page slot found) k ≡ unswept_at v k
+unswept_at-with_slot_at v page slot found k = ⊎_elim
+    (λ e. ap (λ (p : PageSlots). p.unswept) e)
+    (λ h. ap (λ (p : PageSlots). p.unswept) h.1)
     (page_at-with_slot_at v page slot found k)
 
 pub slots_at-with_slot_at : (v : PoolsView) (page slot : ℕ) (found : Option (List ℕ)) (k : ℕ) → length (page_at (with_slot_at v page slot found) k).slots ≡ length (page_at v k).slots
@@ -122,7 +128,7 @@ written_whole v page slot old words e was long =
     ∙ ap (λ ys. take slot xs ++ ys) (spread_one (width_of (pool_at v page)) words old (drop (slot + 1) xs) (long ∙ was) was)
     ∙ ap (λ n. take slot xs ++ (Some words ∷ drop n xs)) next
     ∙ sym (set_split xs slot (Some words) here) in
-    ap (λ slots. with_page v page (record { pool = pool_at v page; slots = slots })) all
+    ap (λ slots. with_page v page (record { pool = pool_at v page; slots = slots; unswept = unswept_at v page })) all
 
 -- the pages after one of them, or the next one, became free
 pub page_at-with_free_page : (v : PoolsView) (page pool k : ℕ) → page ≤ length v.pages → page_at (with_free_page v page pool) k ≡ cond (nat_eq k page) (free_page pool) (page_at v k)

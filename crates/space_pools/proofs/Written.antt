@@ -13,6 +13,10 @@ pub pool_written : (p : PageSlots) (slot : ℕ) (ws : List ℕ) → (written_in 
 unfolding written_in
 pool_written p slot ws = refl
 
+pub unswept_written : (p : PageSlots) (slot : ℕ) (ws : List ℕ) → (written_in p slot ws).unswept ≡ p.unswept
+unfolding written_in
+unswept_written p slot ws = refl
+
 pub length-written_in : (p : PageSlots) (slot : ℕ) (ws : List ℕ) → length (written_in p slot ws).slots ≡ length p.slots
 unfolding written_in
 length-written_in p slot ws = length-written (width_of p.pool) slot ws p.slots
@@ -51,4 +55,5 @@ sound_written p slot ws within h = record {
   wide = λ k words e.
       let f = found_written p slot ws k within in
       over_wide (found_in p k) f.0 words (width_of p.pool) (h.wide k) (sym f.1 ∙ e) ∙ ap width_of (sym (pool_written p slot ws));
+  swept = λ e. unswept_written p slot ws ∙ h.swept (sym (pool_written p slot ws) ∙ e);
 }

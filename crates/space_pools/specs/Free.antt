@@ -1,16 +1,17 @@
 -- Free addresses of a pool, and the least of them.
-use Rattle.std.specs.Prelude.{◌≡◌, ℕ, ◌<◌, ◌≤◌, true, List, length, Some}
+use Rattle.std.specs.Prelude.{◌≡◌, ℕ, ◌<◌, ◌≤◌, true, false, List, length, Some}
 use Rattle.space_model.specs.Layout.{slot_address}
 use Rattle.space_pages.specs.Slots.{words_of}
-use Rattle.space_pools.specs.PageSlots.{IsFullPage, IsFirstFree}
-use Rattle.space_pools.specs.PoolsView.{PoolsView, page_at, pool_at, free_at, with_slot_at}
+use Rattle.space_pools.specs.PageSlots.{IsPassedOver, IsFirstFree}
+use Rattle.space_pools.specs.PoolsView.{PoolsView, page_at, pool_at, free_at, unswept_at, with_slot_at}
 
--- the address is the start of a free slot of a page of the pool
+-- the address is the start of a free slot of a page of the pool that doesn't wait for a sweep
 pub record IsFreeAt (v : PoolsView) (pool address : ℕ) : Type 0 where
   pub page : ℕ
   pub slot : ℕ
   pub has_pool : pool_at v page ≡ Some pool
   pub is_free : free_at v page slot ≡ true
+  pub is_swept : unswept_at v page ≡ false
   pub is : address ≡ slot_address page pool slot
 
 -- the least free address of the pool
@@ -29,15 +30,15 @@ pub record TakesLeast (v w : PoolsView) (pool address : ℕ) : Type 0 where
   pub long : length words ≡ words_of pool
   pub becomes : w ≡ with_slot_at v found.free.page found.free.slot (Some words)
 
--- the lowest page of the pool with a free slot, and the first of its free slots
+-- the lowest page of the pool that births don't pass over, and the first of its free slots
 pub record IsLowestPlace (v : PoolsView) (pool page slot : ℕ) : Type 0 where
   pub has_pool : pool_at v page ≡ Some pool
   pub first : IsFirstFree (page_at v page) slot
-  pub below : (other : ℕ) → other < page → pool_at v other ≡ Some pool → IsFullPage (page_at v other)
+  pub below : (other : ℕ) → other < page → pool_at v other ≡ Some pool → IsPassedOver (page_at v other)
 
--- no page of the pool has a free slot
+-- births pass over each page of the pool
 abbrev pub AreFull : PoolsView → ℕ → Type 0
-AreFull v pool = (page : ℕ) → pool_at v page ≡ Some pool → IsFullPage (page_at v page)
+AreFull v pool = (page : ℕ) → pool_at v page ≡ Some pool → IsPassedOver (page_at v page)
 
 -- w is v after a slot of a page of the pool got words
 pub record TakesPlace (v w : PoolsView) (pool page slot : ℕ) : Type 0 where

@@ -16,7 +16,7 @@ abbrev pub found_from : Inside → ℕ → Option (List ℕ)
 found_from p slot = if bit p.free slot then None else Some (slot_on p.pool p.words slot)
 
 abbrev pub page_from : Inside → PageSlots
-page_from p = record { pool = p.pool; slots = map (found_from p) (range_with_len 0 (length p.free)) }
+page_from p = record { pool = p.pool; slots = map (found_from p) (range_with_len 0 (length p.free)); unswept = p.unswept }
 
 pub record IsPoolPage (p : Inside) : Type 0 where
   pub whole : length p.words ≡ 8192

@@ -1,6 +1,6 @@
 -- What a contract sees of the pools: the most pages, and what is found in each slot of each page.
 use Rattle.std.specs.Prelude.{ℕ, Bool, List, Option, slice_index_or, slice_set}
-use Rattle.space_pools.specs.PageSlots.{PageSlots, spare_page, free_in, taken_in, found_in, with_found_in, written_in}
+use Rattle.space_pools.specs.PageSlots.{PageSlots, spare_page, free_in, taken_in, found_in, with_found_in, written_in, held_in, freed_in}
 
 pub record PoolsView : Type 0 where
   pub limit : ℕ
@@ -13,6 +13,10 @@ page_at v page = slice_index_or v.pages page spare_page
 -- the pool of a page; none for a spare page, and where there is no page
 abbrev pub pool_at : PoolsView → ℕ → Option ℕ
 pool_at v page = (page_at v page).pool
+
+-- whether the page waits for a sweep
+abbrev pub unswept_at : PoolsView → ℕ → Bool
+unswept_at v page = (page_at v page).unswept
 
 -- whether there is this slot and it is free
 abbrev pub free_at : PoolsView → ℕ → ℕ → Bool
@@ -37,3 +41,15 @@ with_slot_at v page slot found = with_page v page (with_found_in (page_at v page
 -- the pools after words were written from the start of a slot on: where they are as many as the slot has, they are its words, and all else stays
 abbrev pub written_at : PoolsView → ℕ → ℕ → List ℕ → PoolsView
 written_at v page slot words = with_page v page (written_in (page_at v page) slot words)
+
+-- the pools after a page came to wait for a sweep
+abbrev pub with_held_page : PoolsView → ℕ → PoolsView
+with_held_page v page = with_page v page (held_in (page_at v page))
+
+-- the pools after a page was swept, where the slots of the plane became free
+abbrev pub with_freed_page : PoolsView → ℕ → List Bool → PoolsView
+with_freed_page v page free = with_page v page (freed_in (page_at v page) free)
+
+-- the pools after a page became spare
+abbrev pub with_spare_page : PoolsView → ℕ → PoolsView
+with_spare_page v page = with_page v page spare_page

@@ -3,7 +3,7 @@ ghost use Rattle.std.specs.Prelude.{◌≡◌, ℕ, ◌<◌, ◌≤◌, length, 
 ghost use Rattle.std.specs.Borrow.{sem};
 ghost use Rattle.space_model.specs.Layout.{page_slots as slots_of_page};
 ghost use Rattle.space_planes.specs.Planes.{bit};
-ghost use Rattle.space_pools.specs.PageSlots.{free_page, free_in, taken_in, found_in, width_of, HoldsSlots, IsFullPage, IsFirstFree, TakesSlot};
+ghost use Rattle.space_pools.specs.PageSlots.{free_page, spare_page, free_in, taken_in, found_in, width_of, held_in, freed_in, HoldsSlots, HasEachFree, IsPassedOver, IsFirstFree, TakesSlot};
 ghost use Rattle.space_pools.specs.PageLending.{LendsOnPage};
 
 use space_model::{POOLS, page_slots};
@@ -19,6 +19,7 @@ pub struct PoolPage {
     pool: Option<u8>,
     free: Plane,
     lowest: u32,
+    unswept: bool,
 }
 
 impl Model for PoolPage {
@@ -69,6 +70,19 @@ fn next_free(free: &Plane, s: u32) -> u32
     }
 }
 
+// The first place whose bit is 1, or the number of bits where there is none.
+fn first_free(free: &Plane) -> u32
+    ensures within { result ≤ length free.now }
+    ensures clear { (k : ℕ) → k < result → bit free.now k ≡ false }
+    ensures set { result < length free.now → bit free.now result ≡ true }
+{
+    let len = free.len();
+    match free.first_set_from(0) {
+        Some(first) => first,
+        None => len,
+    }
+}
+
 impl PoolPage {
     // A page of the pool whose slots are all free.
     pub fn new(alloc: Global, pool: u8) -> Result<PoolPage, NoMemory>
@@ -82,6 +96,7 @@ impl PoolPage {
             pool: Some(pool),
             free,
             lowest: 0,
+            unswept: false,
         })
     }
 
@@ -94,6 +109,35 @@ impl PoolPage {
         self.free.fill(true);
         self.pool = Some(pool);
         self.lowest = 0;
+        self.unswept = false;
+    }
+
+    // Makes it wait for a sweep. Its slots stay.
+    pub fn hold(&mut self)
+        ensures { self.new ≡ held_in self.old }
+    {
+        self.unswept = true;
+    }
+
+    // Makes the slots of the plane free. It waits for no sweep then.
+    pub fn set_free(&mut self, free: &Plane)
+        requires len { length free.now ≡ length self.old.slots }
+        requires each { HasEachFree self.old free.now }
+        ensures { self.new ≡ freed_in self.old free.now }
+    {
+        self.free.copy_from(free);
+        self.lowest = first_free(free);
+        self.unswept = false;
+    }
+
+    // Makes it a spare page.
+    pub fn release(&mut self)
+        ensures { self.new ≡ spare_page }
+    {
+        self.free.reset(0);
+        self.pool = None;
+        self.lowest = 0;
+        self.unswept = false;
     }
 
     // Its pool, which a spare page has none of.
@@ -103,6 +147,21 @@ impl PoolPage {
         self.pool
     }
 
+    // Whether it waits for a sweep.
+    pub fn unswept(&self) -> bool
+        ensures { result ≡ self.now.unswept }
+    {
+        self.unswept
+    }
+
+    // Which of its slots are free.
+    pub fn free_plane(&self) -> &Plane
+        ensures len { length result.now ≡ length self.now.slots }
+        ensures bits { (s : ℕ) → bit result.now s ≡ free_in self.now s }
+    {
+        &self.free
+    }
+
     // Whether the page has this slot and it is free.
     pub fn is_free(&self, s: u32) -> bool
         ensures { result ≡ free_in self.now s }
@@ -110,12 +169,14 @@ impl PoolPage {
         s < self.free.len() && self.free.get(s)
     }
 
-    // The first free slot, if it is a page of this pool.
+    // The first free slot, if it is a page of this pool that doesn't wait for a sweep.
     pub fn first_free_of(&self, pool: u8) -> Option<u32>
-        ensures { MatchOption result (self.now.pool ≡ Some pool → IsFullPage self.now) (λ s. (self.now.pool ≡ Some pool) × IsFirstFree self.now s) }
+        ensures { MatchOption result (self.now.pool ≡ Some pool → IsPassedOver self.now) (λ s. (self.now.pool ≡ Some pool) × IsFirstFree self.now s) }
     {
         match self.pool {
-            Some(its) if its == pool && self.lowest < self.free.len() => Some(self.lowest),
+            Some(its) if its == pool && !self.unswept && self.lowest < self.free.len() => {
+                Some(self.lowest)
+            }
             _ => None,
         }
     }

@@ -1,16 +1,18 @@
 // All pages, each of one of the pools or spare.
-ghost use Rattle.std.specs.Prelude.{◌≡◌, ◌↔◌, ◌<◌, ◌≤◌, [], length, true, Some, Err, IfOk, OnErr, MatchOption};
+ghost use Rattle.std.specs.Prelude.{◌≡◌, ◌↔◌, ℕ, ◌<◌, ◌≤◌, [], length, true, false, is_some, Some, Err, IfOk, OnErr, MatchOption};
 ghost use Rattle.std.specs.Borrow.{sem};
-ghost use Rattle.space_pools.specs.PageSlots.{HoldsSlots, width_of};
-ghost use Rattle.space_pools.specs.PoolsView.{page_at, pool_at, free_at, taken_at, found_at};
+ghost use Rattle.space_pools.specs.PageSlots.{HoldsSlots, HasEachFree, width_of};
+ghost use Rattle.space_pools.specs.PoolsView.{page_at, pool_at, unswept_at, free_at, taken_at, found_at, with_held_page, with_freed_page, with_spare_page};
 ghost use Rattle.space_pools.specs.Free.{IsLeastFree, HasNoFree, TakesLeast, IsLowestPlace, AreFull, TakesPlace};
 ghost use Rattle.space_pools.specs.Spare.{spare_count, IsSpareAt, HasNoSpare, IsLeastSpare, IsNextPage, IsAtLimit, with_free_page};
 ghost use Rattle.space_pools.specs.Sound.{IsSoundPools};
+ghost use Rattle.space_planes.specs.Planes.{bit};
 ghost use Rattle.space_pools.specs.Lending.{LendsSlot};
 
 use crate::pool_page::PoolPage;
 use space_model::{POOLS, address_of};
 use space_pages::SlotPage;
+use space_planes::Plane;
 use std::alloc::{AllocError as NoMemory, Global};
 use std::marker::Model;
 
@@ -30,7 +32,7 @@ pub struct Pools {
     alloc: Global,
     limit: u32,
     pages: Vec<PoolPage>,
-    // For each pool, a number of pages: below it no page of the pool has a free slot.
+    // For each pool, a number of pages: births pass over each page of the pool below it.
     cursors: [u32; 5],
     spare: u32,
 }
@@ -94,6 +96,23 @@ impl Pools {
         self.pages[page as usize].pool()
     }
 
+    /// Whether the page waits for a sweep. A spare one doesn't.
+    pub fn page_unswept(&self, page: u32) -> bool
+        requires { page < length self.now.pages }
+        ensures { result ≡ unswept_at self.now page }
+    {
+        self.pages[page as usize].unswept()
+    }
+
+    /// Which slots of a page are free.
+    pub fn free_plane(&self, page: u32) -> &Plane
+        requires { page < length self.now.pages }
+        ensures len { length result.now ≡ length (page_at self.now page).slots }
+        ensures bits { (s : ℕ) → bit result.now s ≡ free_at self.now page s }
+    {
+        self.pages[page as usize].free_plane()
+    }
+
     /// The words of a page. Of those of its free slots nothing is said.
     pub fn page(&self, page: u32) -> &SlotPage
         requires { page < length self.now.pages }
@@ -131,7 +150,7 @@ impl Pools {
         page.slot_mut(s)
     }
 
-    // The lowest page of the pool that has a free slot, and its first free slot.
+    // The lowest page of the pool that births don't pass over, and its first free slot.
     fn lowest_place(&self, pool: u8) -> Option<(u32, u32)>
         requires { pool < POOLS }
         ensures place { MatchOption result (AreFull self.now pool) (λ place. IsLowestPlace self.now pool place.0 place.1) }
@@ -147,8 +166,8 @@ impl Pools {
         None
     }
 
-    /// The lowest free address of the pool, in bytes, or `None` where none of its pages has a free
-    /// slot. The page numbered 0 begins at 65,536 (this project's own).
+    /// The lowest free address of the pool, in bytes, or `None` where no page of it has a free slot,
+    /// but for those that wait for a sweep. The page numbered 0 begins at 65,536 (this project's own).
     pub fn lowest_free(&self, pool: u8) -> Option<u64>
         requires { pool < POOLS }
         ensures { MatchOption result (HasNoFree self.now pool) (IsLeastFree self.now pool) }
@@ -170,7 +189,8 @@ impl Pools {
     }
 
     /// Takes the lowest free address of the pool, in bytes: its slot is free no more, and its words
-    /// may be any. `None` where no page of the pool has a free slot; nothing changes then.
+    /// may be any. `None` where no page of the pool has a free slot, but for those that wait for a
+    /// sweep; nothing changes then.
     pub fn take(&mut self, pool: u8) -> Option<u64>
         requires { pool < POOLS }
         ensures lowest { MatchOption result (HasNoFree self.old pool) (IsLeastFree self.old pool) }
@@ -183,6 +203,46 @@ impl Pools {
             }
             None => None,
         }
+    }
+
+    /// Makes a page wait for a sweep: its slots stay, and births pass over it.
+    pub fn hold_page(&mut self, page: u32)
+        requires there { page < length self.old.pages }
+        requires pool { is_some (pool_at self.old page) ≡ true }
+        ensures { self.new ≡ with_held_page self.old page }
+    {
+        self.pages[page as usize].hold();
+    }
+
+    /// Makes the slots of the plane free, which are all free slots of the page then. The page waits
+    /// for no sweep any more.
+    pub fn free_page(&mut self, page: u32, free: &Plane)
+        requires there { page < length self.old.pages }
+        requires pool { is_some (pool_at self.old page) ≡ true }
+        requires len { length free.now ≡ length (page_at self.old page).slots }
+        requires each { HasEachFree (page_at self.old page) free.now }
+        ensures { self.new ≡ with_freed_page self.old page free.now }
+    {
+        match self.page_pool(page) {
+            Some(pool) => {
+                self.pages[page as usize].set_free(free);
+                self.cursors[pool as usize] = page.min(self.cursors[pool as usize]);
+            }
+            None => unreachable!(),
+        }
+    }
+
+    /// Makes a page without a taken slot spare. Its memory stays, for a pool that it is given to.
+    pub fn release_page(&mut self, page: u32)
+        requires there { page < length self.old.pages }
+        requires empty { (s : ℕ) → taken_at self.old page s ≡ false }
+        ensures { self.new ≡ with_spare_page self.old page }
+    {
+        if self.page_pool(page).is_none() {
+            return;
+        }
+        self.pages[page as usize].release();
+        self.spare += 1;
     }
 
     // The lowest spare page.
@@ -290,6 +350,18 @@ mod tests {
         assert!(rt; pools.take(4) == Some(0x20000));
         assert!(rt; pools.add_page(0) == Err(PageFault::AtLimit));
         assert!(rt; pools.limit() == 2);
+        Ok(())
+    }
+
+    #[test]
+    fn births_pass_over_a_page_that_waits_for_a_sweep(rt: HostRuntime) -> Result<(), Fail> {
+        let mut pools = Pools::new(rt.alloc(), 2)?;
+        assert!(rt; pools.add_page(4) == Ok(0) && pools.add_page(4) == Ok(1));
+        if pools.page_count() == 2 && pools.page_pool(0).is_some() {
+            assert!(rt; !pools.page_unswept(0) && pools.free_plane(0).count() == 102);
+            pools.hold_page(0);
+            assert!(rt; pools.take(4) == Some(0x20000));
+        }
         Ok(())
     }
 

@@ -65,7 +65,20 @@ fn traces_are_answered(rt: HostRuntime) -> Result<(), Fail> {
         b"new a 3 P M\nraw 0x10029\nraw 0xffffffffffffffff\nsame @0 @0\nstore a 0 @1\nload s a 0\npush =4611686018427387903\n";
     let inside_text: &[u8] =
         b"#1 0x10000\nword 0x10029 names -\nword 0xffffffffffffffff names -\nerror not an object\nok\n=32788\nword 0x7fffffffffffffff names -\n";
-    let cases: [(&[u8], u8, &[u8]); 9] = [
+    // A cycle lives while a root, a field or a stack word leads to it, and goes then; its place is free after it.
+    let cycle: &[u8] =
+        b"new a 1 P M\nstore a 0 a\npush a\nsame a @0\nload b a 0\ndrop a\ndrop b\ngc\npop\ngc\n";
+    let cycle_text: &[u8] =
+        b"#1 0x10000\nok\nword 0x10000 names #1\ntrue\n#1\nok\nok\n! verdict full 0\nok scanned 1\nok\n! gone #1\n! verdict full 1\nok scanned 0\n";
+    let freed: &[u8] = b"new a 3 P M\nnew b 3 P M\ndrop b\ngc\nnew c 3 P M\n";
+    let freed_text: &[u8] =
+        b"#1 0x10000\n#2 0x10028\nok\n! gone #2\n! verdict full 1\nok scanned 1\n#3 0x10028\n";
+    // A page on which nothing is left serves another pool; a word of what is gone names nothing, until a birth is there.
+    let spare: &[u8] =
+        b"new a 0 P M\npush a\nnew a 4 P M\nnew a 9 P M\npop\nraw 0x10028\ngc\nnew b 38 P M\nraw 0x10000\nraw 0x20000\ngc\n";
+    let spare_text: &[u8] =
+        b"#1 0x10000\nword 0x10000 names #1\n#2 0x20000\n#3 0x30000\nok\nword 0x10028 names -\n! gone #1\n! gone #2\n! verdict full 2\nok scanned 1\n#4 0x10000\nword 0x10000 names #4\nword 0x20000 names -\n! verdict full 0\nok scanned 2\n";
+    let cases: [(&[u8], u8, &[u8]); 12] = [
         (b"", 0, b""),
         (linked, 0, linked_text),
         (read_first, 0, read_first_text),
@@ -75,6 +88,9 @@ fn traces_are_answered(rt: HostRuntime) -> Result<(), Fail> {
         (words, 0, words_text),
         (largest, 0, largest_text),
         (inside, 0, inside_text),
+        (cycle, 0, cycle_text),
+        (freed, 0, freed_text),
+        (spare, 0, spare_text),
     ];
     for (trace, wanted_status, wanted) in cases {
         let (status, text) = replayed(alloc, &["replay"], trace, Vec::new(alloc), Vec::new(alloc))?;

@@ -6,7 +6,7 @@ use Rattle.std.specs.List.{slice_index, onto_first}
 use Rattle.std.specs.Str.{bytes_eq}
 use Rattle.std.specs.Str.Parse.{digits_value}
 use Rattle.space_model.specs.declared.command.Command.{Command}
-use Rattle.space_model.specs.declared.command.Command.TheVariants.{New, Set, DropRoot, Push, Raw, Pop, Store, Load, Same}
+use Rattle.space_model.specs.declared.command.Command.TheVariants.{New, Set, DropRoot, Push, Raw, Pop, Store, Load, Same, Gc}
 use Rattle.space_model.specs.declared.command.Input.{Input}
 use Rattle.space_model.specs.declared.command.Input.TheVariants.{From, Nil, Small}
 use Rattle.space_model.specs.declared.command.Operand.{Operand}
@@ -71,6 +71,7 @@ form_of name words =
     else if bytes_eq name (codes "store") then store_of words
     else if bytes_eq name (codes "load") then load_of words
     else if bytes_eq name (codes "same") then same_of words
+    else if bytes_eq name (codes "gc") then Some Gc
     else None
 
 abbrev command_of : List (List ℕ) → Option Command
@@ -117,6 +118,7 @@ command_is words Pop h = rw h refl
 command_is words (Store object index value) h = rw (h.3, operand_is h.0 object h.4, h.5.value, input_is h.2 value h.6) refl
 command_is words (Load root object index) h = rw (h.2, operand_is h.0 object h.4, h.5.value) refl
 command_is words (Same left right) h = rw (h.2, operand_is h.0 left h.3, operand_is h.1 right h.4) refl
+command_is words Gc h = rw h refl
 
 -- a blank has no words of a command
 comment_is : (words : List (List ℕ)) → command_of (onto_first 59 words) ≡ None

@@ -9,7 +9,7 @@ use Rattle.std.specs.Fmt.{decimal}
 use Rattle.std.specs.List.{All}
 use Rattle.std.specs.Str.Parse.{AllDigits}
 use Rattle.space_model.specs.declared.command.Command.{Command}
-use Rattle.space_model.specs.declared.command.Command.TheVariants.{New, Set, DropRoot, Push, Raw, Pop, Store, Load, Same}
+use Rattle.space_model.specs.declared.command.Command.TheVariants.{New, Set, DropRoot, Push, Raw, Pop, Store, Load, Same, Gc}
 use Rattle.space_model.specs.declared.command.Input.{Input}
 use Rattle.space_model.specs.declared.command.Input.TheVariants.{From, Nil, Small}
 use Rattle.space_model.specs.declared.command.Operand.{Operand}
@@ -211,3 +211,4 @@ spelling_is_read (Same left right) w s =
     let words : IsCut (command_text (Same left right)) (codes "same" ∷ a ∷ b ∷ []) =
     word_off (codes "same") (plain_text (codes "same") refl) (operand_off left _ w.0 o (last_word b (operand_plain right w.1 t))) in
     (a, b, words_read words, operand_read left w.0 o, operand_read right w.1 t)
+spelling_is_read Gc w s = refl

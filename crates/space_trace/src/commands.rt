@@ -129,5 +129,6 @@ pub fn put_command(line: &mut Line, command: Command)
             put(line, b" ");
             put_operand(line, right);
         }
+        Command::Gc => put(line, b"gc"),
     }
 }

@@ -103,6 +103,15 @@ fn read_same(rest: Option<&[u8]>) -> Option<Command>
     Some(Command::Same { left, right })
 }
 
+fn read_gc(rest: Option<&[u8]>) -> Option<Command>
+    ensures { ReadsWords (codes "gc" ∷ words_in rest.entry) result }
+{
+    if next_word(rest).is_some() {
+        return None;
+    }
+    Some(Command::Gc)
+}
+
 /// The command of a line whose first word this is.
 pub fn read_words(name: &[u8], rest: Option<&[u8]>) -> Option<Command>
     ensures { ReadsWords (name.now ∷ words_in rest.entry) result }
@@ -117,6 +126,7 @@ pub fn read_words(name: &[u8], rest: Option<&[u8]>) -> Option<Command>
         _ if name == b"store".as_slice() => read_store(rest),
         _ if name == b"load".as_slice() => read_load(rest),
         _ if name == b"same".as_slice() => read_same(rest),
+        _ if name == b"gc".as_slice() => read_gc(rest),
         _ => None,
     }
 }

@@ -118,6 +118,10 @@ pub fn put_reply(line: &mut Line, reply: Reply)
         }
         Reply::Read { value } => put_value(line, value),
         Reply::Truth { yes } => put(line, truth_bytes(yes)),
+        Reply::Scanned { count } => {
+            put(line, b"ok scanned ");
+            put_decimal(line, count);
+        }
         Reply::Refused { why } => put(line, refusal_bytes(why)),
     }
 }

@@ -6,7 +6,7 @@ use std::alloc::{AllocError as NoMemory, Global};
 use std::test::Fail;
 
 // The line, and how its command is spelled.
-const FORMS: [(&[u8], &[u8]); 23] = [
+const FORMS: [(&[u8], &[u8]); 24] = [
     (b"new a 3 P M", b"new a 3 P M\n"),
     (b"new a 79 P M", b"new a 79 P M\n"),
     (
@@ -42,12 +42,13 @@ const FORMS: [(&[u8], &[u8]); 23] = [
     (b"pop", b"pop\n"),
     (b"same a b", b"same a b\n"),
     (b"same a b\r", b"same a b\n"),
+    (b"gc", b"gc\n"),
 ];
 
 // Lines without a command.
 const BLANK: [&[u8]; 5] = [b"", b"\r", b";", b"; a comment", b";same a b\r"];
 
-const MALFORMED: [&[u8]; 41] = [
+const MALFORMED: [&[u8]; 43] = [
     b" ",
     b" ; a comment",
     b"\r\r",
@@ -89,6 +90,8 @@ const MALFORMED: [&[u8]; 41] = [
     b"set a =",
     b"set a 1",
     b"get a",
+    b"gc ",
+    b"gc a",
 ];
 
 const EVENTS: [(Event, &[u8]); 4] = [
@@ -116,7 +119,7 @@ const EVENTS: [(Event, &[u8]); 4] = [
     ),
 ];
 
-const REPLIES: [(Reply, &[u8]); 18] = [
+const REPLIES: [(Reply, &[u8]); 20] = [
     (
         Reply::Made {
             name: 1,
@@ -170,6 +173,13 @@ const REPLIES: [(Reply, &[u8]); 18] = [
     ),
     (Reply::Truth { yes: true }, b"true\n"),
     (Reply::Truth { yes: false }, b"false\n"),
+    (Reply::Scanned { count: 0 }, b"ok scanned 0\n"),
+    (
+        Reply::Scanned {
+            count: 18446744073709551615,
+        },
+        b"ok scanned 18446744073709551615\n",
+    ),
     (
         Reply::Refused {
             why: Refusal::TooLarge,

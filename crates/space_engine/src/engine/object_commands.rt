@@ -12,6 +12,7 @@ ghost use Rattle.space_heap.specs.Objects.{stands, object_of};
 ghost use Rattle.space_engine.specs.Births.{IsBirth, IsRootedBirth, LacksRoom};
 ghost use Rattle.space_engine.specs.Stands.{Holds};
 ghost use Rattle.space_engine.specs.Steps.{Answers};
+ghost use Rattle.space_engine.specs.Tidy.{GoesOn};
 ghost use Rattle.space_engine.specs.Views.{with_field, with_heap, with_root_dropped, with_root_reserved, with_root_written};
 ghost use Rattle.space_engine.specs.Words.{written_words};
 
@@ -92,7 +93,7 @@ impl Engine {
     pub fn create(&mut self, root: &Ident, fields: u64, guard: Guard, style: Style) -> Reply
         requires { self.old.heap.counters.born < 2 ^ 62 }
         ensures answers { (s : State) → Holds self.old s → Answers s self.new (New root.now fields guard style) result }
-        ensures born { self.new.heap.counters.born ≤ self.old.heap.counters.born + 1 }
+        ensures goes_on { GoesOn self.old.heap self.new.heap }
     {
         let Some(_) = pool_for(fields) else {
             return Reply::Refused {
@@ -143,7 +144,7 @@ impl Engine {
     pub fn store(&mut self, object: &Operand, index: u64, value: &Input) -> Reply
         requires { IsSmallInput value.now }
         ensures answers { (s : State) → Holds self.old s → Answers s self.new (Store object.now index value.now) result }
-        ensures born { self.new.heap.counters.born ≡ self.old.heap.counters.born }
+        ensures goes_on { GoesOn self.old.heap self.new.heap }
     {
         match self.write_place(object, index, value) {
             Ok((address, word)) => {

@@ -18,7 +18,7 @@ pub clear-requires : goal.clear-requires
 clear-requires c = omega arith
 
 abbrev after : goal.After-clear → Inside
-after c = record { words = c.self.inside.words; pool = c.self.inside.pool; free = c.clear.new.self; lowest = c.next_free-self-inside.result }
+after c = record { words = c.self.inside.words; pool = c.self.inside.pool; free = c.clear.new.self; lowest = c.next_free-self-inside.result; unswept = c.self.inside.unswept }
 
 pub invariant_of-self : goal.invariant_of-self
 invariant_of-self c =
@@ -53,7 +53,7 @@ returns c =
     rw (← c.self.view_is) (record {
       words = slot_on p.pool p.words s;
       long = long_slot p s c.self.invariant within;
-      becomes = one_slot p (after c) s (Some (slot_on p.pool p.words s)) refl long within
+      becomes = one_slot p (after c) s (Some (slot_on p.pool p.words s)) refl refl long within
           (cond-false _ None _ (is s ∙ bit-set_same free s false within))
           (λ k h d. ap (λ b. cond b None (Some (slot_on p.pool p.words k))) (is k ∙ bit-set_other free s k false d));
     })

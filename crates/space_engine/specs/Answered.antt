@@ -1,0 +1,35 @@
+-- A command that was answered, with its events written, or a front of them.
+use Rattle.std.specs.Prelude.{◌≡◌, ℕ, List, map, Option}
+use Rattle.std.specs.Io.KnownBytes.{Appends}
+use Rattle.space_io.specs.Sinks.{AppendsPrefix}
+use Rattle.space_model.specs.declared.command.Command.{Command}
+use Rattle.space_model.specs.declared.event.Event.{Event}
+use Rattle.space_model.specs.declared.reply.Reply.{Reply}
+use Rattle.space_model.specs.Outputs.{Told}
+use Rattle.space_model.specs.Spelling.{IsSpelled}
+use Rattle.space_model.specs.State.{State}
+use Rattle.space_model.specs.Texts.{AreSpelled, text_of, reply_pieces}
+use Rattle.space_engine.specs.Counting.{no_counts, counts_of}
+use Rattle.space_engine.specs.Stands.{Holds}
+use Rattle.space_engine.specs.Steps.{AnswersWith}
+use Rattle.space_engine.specs.Views.{View}
+
+-- the events and the reply are lawful from each state that the view holds, and the events can be spelled
+pub record IsLawfulAnswer (old new : View) (command : Command) (events : List Event) (reply : Reply) : Type 0 where
+  pub answers : (s : State) → Holds old s → AnswersWith s new command events reply
+  pub spelled : (s : State) → Holds old s → AreSpelled (map Told events)
+
+-- the events were written, and tell of so many gone objects
+pub record IsAnswered (old new : View) (command : Command) (reply : Reply) (gone : ℕ) (before after : Option (List ℕ)) : Type 0 where
+  pub events : List Event
+  pub lawful : IsLawfulAnswer old new command events reply
+  pub counted : counts_of (map Told events) ≡ record no_counts { gone = gone }
+  pub written : Appends before after (text_of (map Told events))
+
+-- a front of the events was written
+pub record IsCutOff (old new : View) (command : Command) (before after : Option (List ℕ)) : Type 0 where
+  pub events : List Event
+  pub reply : Reply
+  pub lawful : IsLawfulAnswer old new command events reply
+  pub reply_spelled : IsSpelled (reply_pieces reply)
+  pub prefix : AppendsPrefix before after (text_of (map Told events))

@@ -1,0 +1,21 @@
+-- The objects that a verdict found to be gone, in ascending order of address, and their names.
+use Rattle.std.specs.Prelude.{ℕ, ◌+◌, ◌*◌, List, length, map}
+use Rattle.std.specs.List.{range_with_len, filter}
+use Rattle.space_heap.specs.HeapView.{HeapView}
+use Rattle.space_heap.specs.Objects.{object_of}
+use Rattle.space_heap.specs.Sweeping.{is_gone}
+
+-- the gone objects below an address
+unfoldable pub gone_below : HeapView → ℕ → List ℕ
+gone_below v bound = filter (is_gone v) (range_with_len 0 bound)
+
+-- all of them: none stands past the last page
+abbrev pub gone_addresses : HeapView → List ℕ
+gone_addresses v = gone_below v (65536 * (length v.pages + 1))
+
+-- the name of the object at an address
+abbrev pub name_at : HeapView → ℕ → ℕ
+name_at v a = (object_of v a).name
+
+abbrev pub gone_names : HeapView → List ℕ
+gone_names v = map (name_at v) (gone_addresses v)

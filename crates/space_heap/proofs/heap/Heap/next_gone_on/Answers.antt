@@ -1,0 +1,42 @@
+use Rattle.std.proofs.Common.{◌≡◌, length, ap, subst, arith, rules, Some, None}
+use Rattle.space_planes.specs.Planes.{IsClearFrom, IsFirstSet}
+use Rattle.space_pools.specs.PoolsView.{pool_at}
+use Rattle.space_heap.specs.declared.marks.Marks.{Marks}
+use Rattle.space_heap.specs.HeapView.{HeapView}
+use Rattle.space_heap.specs.NextGone.{HasNoneOn, IsNextGoneOn}
+use Rattle.space_heap.specs.Inside.{rest_of}
+use Rattle.space_heap.proofs.Views.{length-pages_from}
+use Rattle.space_heap.proofs.GoneObjects.{clear_spare, clear_page, next_here}
+use Rattle.space_heap.proofs.heap.Heap.next_gone_on.Goals as goal
+
+pub page_pool-requires : goal.page_pool-requires
+page_pool-requires c =
+    let n = length-pages_from c.self.inside.pools c.self.inside.marks.items in
+    let e = ap (λ (v : HeapView). length v.pages) c.self.view_is in
+    let r = c.requires in
+    omega arith
+
+pub returns-in-Some-first_set_from : goal.returns-in-Some-first_set_from
+returns-in-Some-first_set_from c =
+    let h = c.self.inside in
+    let its : pool_at h.pools c.args.page ≡ Some c.in-Some.pool = search rules in
+    let f = subst (λ (m : Marks). IsFirstSet m.dead c.first_slot-start.result c.in-Some-first_set_from.slot) c.marks_of.ensures c.in-Some-first_set_from.ensures in
+    let known = (c.page_count.ensures.sound.sound c.args.page).known c.in-Some.pool its in
+    subst (λ v. IsNextGoneOn v c.args.page c.args.from c.address_of.result) c.self.view_is
+    (next_here h.pools h.marks.items (rest_of h) c.args.page c.self.invariant.marks c.page_count.ensures.sound c.in-Some.pool c.first_slot-start.result c.args.from its known c.first_slot-start.ensures c.in-Some-first_set_from.slot c.address_of.result c.address_of.ensures f)
+
+pub returns-in-None-first_set_from : goal.returns-in-None-first_set_from
+returns-in-None-first_set_from c =
+    let h = c.self.inside in
+    let its : pool_at h.pools c.args.page ≡ Some c.in-Some.pool = search rules in
+    let f = subst (λ (m : Marks). IsClearFrom m.dead c.first_slot-start.result) c.marks_of.ensures c.in-None-first_set_from.ensures in
+    let known = (c.page_count.ensures.sound.sound c.args.page).known c.in-Some.pool its in
+    subst (λ v. HasNoneOn v c.args.page c.args.from) c.self.view_is
+    (clear_page h.pools h.marks.items (rest_of h) c.args.page c.self.invariant.marks c.page_count.ensures.sound c.in-Some.pool c.first_slot-start.result c.args.from its known c.first_slot-start.ensures f)
+
+pub returns-in-None : goal.returns-in-None
+returns-in-None c =
+    let h = c.self.inside in
+    let its : pool_at h.pools c.args.page ≡ None = search rules in
+    subst (λ v. HasNoneOn v c.args.page c.args.from) c.self.view_is
+    (clear_spare h.pools h.marks.items (rest_of h) c.args.page c.self.invariant.marks c.page_count.ensures.sound c.args.from its)

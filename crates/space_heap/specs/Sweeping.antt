@@ -1,0 +1,101 @@
+-- The heap after a verdict, and after the sweep of a page.
+use Rattle.std.specs.Prelude.{◌≡◌, ℕ, ◌+◌, Bool, true, false, not, ◌&&◌, List, [], ◌∷◌, length, map, nat_eq, is_some, count_by, Option, slice_set, if◌then◌else◌}
+use Rattle.std.specs.List.{range_with_len, filter, list_all}
+use Rattle.space_model.specs.declared.event.Kind.{Kind}
+use Rattle.space_model.specs.declared.event.Kind.TheVariants.{Minor, Major, Full}
+use Rattle.space_model.specs.Layout.{page_of}
+use Rattle.space_model.specs.declared.phase.Phase.{Phase}
+use Rattle.space_model.specs.declared.phase.Phase.TheVariants.{Idle, Sweeping}
+use Rattle.space_heap.specs.declared.colour.Colour.{Colour}
+use Rattle.space_heap.specs.declared.colour.Colour.TheVariants.{White, Grey, Black}
+use Rattle.space_heap.specs.Slots.{ObjectView, SlotView, Free, Moved, Object, has_object, object_in, is_free}
+use Rattle.space_heap.specs.HeapView.{PageView, HeapView, no_page, page_at, pool_at}
+use Rattle.space_heap.specs.Objects.{stands, object_of}
+
+-- whether it is the colour of what isn't marked
+abbrev pub is_white : Colour → Bool
+is_white White = true
+is_white Grey = false
+is_white Black = false
+
+-- an object is gone where it is white
+abbrev pub settled_object : ObjectView → ObjectView
+settled_object o = record o { gone = is_white o.colour }
+
+-- a slot after a verdict
+abbrev pub settled_slot : SlotView → SlotView
+settled_slot Free = Free
+settled_slot (Moved to) = Moved to
+settled_slot (Object o) = Object (settled_object o)
+
+-- a page after a verdict
+abbrev pub settled_page : PageView → PageView
+settled_page p = record p { slots = map settled_slot p.slots }
+
+-- the pages with a pool, ascending
+abbrev pub pooled_pages : HeapView → List ℕ
+pooled_pages v = filter (λ page. is_some (pool_at v page)) (range_with_len 0 (length v.pages))
+
+-- the phase after a verdict for which these pages wait for a sweep
+abbrev pub phase_with : List ℕ → Phase
+phase_with [] = Idle
+phase_with (page ∷ pages) = Sweeping
+
+-- how many minor verdicts there were after one of this kind
+abbrev pub minors_after : Kind → ℕ → ℕ
+minors_after Minor n = n + 1
+minors_after Major n = n
+minors_after Full n = n
+
+-- how many major and full verdicts there were after one of this kind
+abbrev pub others_after : Kind → ℕ → ℕ
+others_after Minor n = n
+others_after Major n = n + 1
+others_after Full n = n + 1
+
+-- the heap after a verdict: each white object is gone, each page with a pool waits for a sweep, and the verdict is counted
+unfoldable pub settled : HeapView → Kind → HeapView
+settled v kind = record v {
+  pages = map settled_page v.pages;
+  unswept = pooled_pages v;
+  phase = phase_with (pooled_pages v);
+  counters = record v.counters { minor_verdicts = minors_after kind v.counters.minor_verdicts; other_verdicts = others_after kind v.counters.other_verdicts };
+}
+
+-- no object that stands is gone
+abbrev pub HasNoGone : HeapView → Type 0
+HasNoGone v = (a : ℕ) → stands v a ≡ true → (object_of v a).gone ≡ false
+
+-- whether a gone object stands at the address
+abbrev pub is_gone : HeapView → ℕ → Bool
+is_gone v a = stands v a && (object_of v a).gone
+
+-- a gone object stands at the address, on the page
+abbrev pub IsGoneOn : HeapView → ℕ → ℕ → Type 0
+IsGoneOn v page a = (is_gone v a ≡ true) × (page_of a ≡ page)
+
+-- whether the slot holds a gone object
+abbrev pub has_gone : SlotView → Bool
+has_gone slot = has_object slot && (object_in slot).gone
+
+-- the slot is free where its object was gone
+abbrev pub swept_slot : SlotView → SlotView
+swept_slot Free = Free
+swept_slot (Moved to) = Moved to
+swept_slot (Object o) = if o.gone then Free else Object o
+
+-- the page with these slots; where all are free it is spare
+abbrev pub page_with_slots : Option ℕ → List SlotView → PageView
+page_with_slots pool slots = if list_all is_free slots then no_page else record { pool = pool; slots = slots }
+
+-- the page after the slots of its gone objects became free
+abbrev pub swept_page : PageView → PageView
+swept_page p = page_with_slots p.pool (map swept_slot p.slots)
+
+-- the heap after the sweep of a page, whose freed slots are counted
+unfoldable pub swept : HeapView → ℕ → HeapView
+swept v page = record v {
+  pages = slice_set v.pages page (swept_page (page_at v page));
+  unswept = filter (λ other. not (nat_eq other page)) v.unswept;
+  counters = record v.counters { freed = v.counters.freed + count_by has_gone (page_at v page).slots };
+}

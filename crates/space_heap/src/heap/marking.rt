@@ -1,0 +1,125 @@
+// The calls of a marking.
+ghost use Rattle.std.specs.Prelude.{◌≡◌, ◌-◌, ◌*◌, ◌<◌, true, [], length, IfSome, IfNone, slice_index_or};
+ghost use Rattle.space_heap.specs.Objects.{is_object};
+ghost use Rattle.space_heap.specs.Marking.{colour_of, greyed, blackened, unmarked, IsCoherent, HasAtMost};
+
+use crate::colour::Colour;
+use crate::heap::Heap;
+use crate::mark_stack::push_grey;
+use crate::marks::{paint_slot, unmark_pages};
+use crate::slot_place::slot_place;
+
+impl Heap {
+    /// How many objects are grey.
+    pub fn grey_count(&self) -> u64
+        ensures { result ≡ length self.now.grey }
+    {
+        self.grey.len() as u64
+    }
+
+    /// The address of the object that became grey last, or `None` where none is grey.
+    pub fn last_grey(&self) -> Option<u64>
+        ensures none { IfNone result (self.now.grey ≡ []) }
+        ensures some { IfSome result (λ a. (0 < length self.now.grey) × (a ≡ slice_index_or self.now.grey (length self.now.grey - 1) 0)) }
+        ensures coherent { IsCoherent self.now }
+        ensures most { HasAtMost self.now (1638 * 4096) }
+    {
+        self.pools.page_count();
+        self.grey.last().copied()
+    }
+
+    /// A white object is grey now. It takes no memory.
+    pub fn grey(&mut self, address: u64)
+        requires object { is_object self.old address ≡ true }
+        requires white { colour_of self.old address ≡ Colour.White }
+        ensures { self.new ≡ greyed self.old address }
+    {
+        self.pools.page_count();
+        match slot_place(&self.pools, address) {
+            Some((page, slot)) => {
+                paint_slot(&mut self.marks, page, slot, false);
+                push_grey(&mut self.grey, address);
+            }
+            None => unreachable!(),
+        }
+    }
+
+    /// The object that became grey last is black now.
+    pub fn blacken(&mut self, address: u64)
+        requires grey { 0 < length self.old.grey }
+        requires last { address ≡ slice_index_or self.old.grey (length self.old.grey - 1) 0 }
+        ensures { self.new ≡ blackened self.old address }
+    {
+        match slot_place(&self.pools, address) {
+            Some((page, slot)) => {
+                paint_slot(&mut self.marks, page, slot, true);
+                self.grey.pop();
+            }
+            None => unreachable!(),
+        }
+    }
+
+    /// Takes all marks away: each object, gone or not, is white, and neither remembered nor kept.
+    pub fn unmark(&mut self)
+        ensures { self.new ≡ unmarked self.old }
+    {
+        unmark_pages(&mut self.marks);
+        self.grey.clear();
+    }
+}
+
+#[cfg(test)]
+mod tests {
+    use super::*;
+    use space_model::{Guard, Style};
+    use std::test::Fail;
+
+    // Makes the object that a word names grey, where it is white.
+    #[tactic(auto, using(crate::proofs::ObjectLaws::object_from_word, crate::proofs::ObjectLaws::stands_from_word))]
+    fn visit(heap: &mut Heap, word: u64) {
+        if let Some(address) = heap.object_at(word) {
+            match heap.colour(address) {
+                Colour::White => heap.grey(address),
+                _ => {}
+            }
+        }
+    }
+
+    // Whether an object was born that has one field.
+    fn is_born(heap: &mut Heap) -> bool {
+        heap.born() < 1 << 40 && heap.place(1, Guard::Protected, Style::Keeping).is_ok()
+    }
+
+    // The colour of the object that a word names.
+    #[tactic(auto, using(crate::proofs::ObjectLaws::stands_from_word))]
+    fn colour(heap: &Heap, word: u64) -> Option<Colour> {
+        match heap.object_at(word) {
+            Some(address) => Some(heap.colour(address)),
+            None => None,
+        }
+    }
+
+    #[test]
+    fn the_object_that_became_grey_last_becomes_black_first(rt: HostRuntime) -> Result<(), Fail> {
+        let mut heap = Heap::new(rt.alloc(), 1)?;
+        assert!(rt; heap.add_page(0) == Ok(0));
+        assert!(rt; is_born(&mut heap) && is_born(&mut heap) && is_born(&mut heap));
+        for word in [0x10050, 0x10000, 0x10029, 0x10050] {
+            visit(&mut heap, word);
+        }
+        assert!(rt; heap.grey_count() == 2 && heap.last_grey() == Some(0x10000));
+        if let Some(address) = heap.last_grey() {
+            heap.blacken(address);
+        }
+        assert!(rt; heap.grey_count() == 1 && heap.last_grey() == Some(0x10050));
+        assert!(rt; colour(&heap, 0x10000) == Some(Colour::Black));
+        assert!(rt; colour(&heap, 0x10028) == Some(Colour::White));
+        assert!(rt; colour(&heap, 0x10050) == Some(Colour::Grey));
+        heap.unmark();
+        assert!(rt; heap.grey_count() == 0 && heap.last_grey().is_none());
+        for word in [0x10000, 0x10028, 0x10050] {
+            assert!(rt; colour(&heap, word) == Some(Colour::White));
+        }
+        Ok(())
+    }
+}

@@ -1,0 +1,144 @@
+// The calls of a verdict and of a sweep.
+ghost use Rattle.std.specs.Prelude.{◌≡◌, ◌<◌, ◌^◌, ℕ, MatchOption, true, false, [], length, if◌then◌else◌};
+ghost use Rattle.space_heap.specs.HeapView.{is_unswept};
+ghost use Rattle.space_heap.specs.NextGone.{HasNoGoneFrom, IsNextGone, HasNoneOn, IsNextGoneOn};
+ghost use Rattle.space_heap.specs.Sweeping.{settled, minors_after, others_after, swept, HasNoGone};
+
+use crate::heap::Heap;
+use crate::marks::marks_of;
+use crate::slot_place::first_slot;
+use crate::sweeps::{hold_pages, settle_pages, sweep_one};
+use space_model::{Kind, Phase, address_of};
+
+// The phase after a verdict.
+fn phase_after(some: bool) -> Phase
+    ensures { result ≡ (if some then Phase.Sweeping else Phase.Idle) }
+{
+    if some { Phase::Sweeping } else { Phase::Idle }
+}
+
+// How many minor verdicts there are with one more of this kind.
+fn count_minor(kind: Kind, count: u64) -> u64
+    requires { count < 2 ^ 62 }
+    ensures { result ≡ minors_after kind count }
+{
+    match kind {
+        Kind::Minor => count + 1,
+        Kind::Major => count,
+        Kind::Full => count,
+    }
+}
+
+// How many major and full verdicts there are with one more of this kind.
+fn count_other(kind: Kind, count: u64) -> u64
+    requires { count < 2 ^ 62 }
+    ensures { result ≡ others_after kind count }
+{
+    match kind {
+        Kind::Minor => count,
+        Kind::Major => count + 1,
+        Kind::Full => count + 1,
+    }
+}
+
+impl Heap {
+    /// How many minor verdicts there were.
+    pub fn minor_verdicts(&self) -> u64
+        ensures { result ≡ self.now.counters.minor_verdicts }
+    {
+        self.minor_verdicts
+    }
+
+    /// How many major and full verdicts there were.
+    pub fn other_verdicts(&self) -> u64
+        ensures { result ≡ self.now.counters.other_verdicts }
+    {
+        self.other_verdicts
+    }
+
+    /// How many slots of gone objects were made free by sweeps.
+    pub fn freed(&self) -> u64
+        ensures { result ≡ self.now.counters.freed }
+    {
+        self.freed
+    }
+
+    #[tactic(auto, using(crate::proofs::Unswept::waiting))]
+    /// Whether the page waits for a sweep.
+    pub fn page_unswept(&self, page: u32) -> bool
+        requires { page < length self.now.pages }
+        ensures { result ≡ is_unswept self.now page }
+    {
+        self.pools.page_unswept(page)
+    }
+
+    #[tactic(auto, using(crate::proofs::SettledSlots::phases))]
+    /// Changes the phase.
+    pub fn set_phase(&mut self, phase: Phase)
+        ensures { self.new ≡ record self.old { phase = phase } }
+    {
+        self.phase = phase;
+    }
+
+    /// A verdict: each white object is gone, and each page with a pool waits for a sweep. The phase
+    /// is that of sweeping, or nothing is under way where no page has a pool. The verdict is counted.
+    /// Ages stay 0, since no command makes an object older yet.
+    pub fn settle(&mut self, kind: Kind)
+        requires none_grey { self.old.grey ≡ [] }
+        requires none_gone { HasNoGone self.old }
+        requires minors { self.old.counters.minor_verdicts < 2 ^ 62 }
+        requires others { self.old.counters.other_verdicts < 2 ^ 62 }
+        ensures { self.new ≡ settled self.old kind }
+    {
+        settle_pages(&mut self.marks);
+        let some = hold_pages(&mut self.pools);
+        self.phase = phase_after(some);
+        self.minor_verdicts = count_minor(kind, self.minor_verdicts);
+        self.other_verdicts = count_other(kind, self.other_verdicts);
+    }
+
+    /// Sweeps a page: the slots of its gone objects are free, and it is spare where all its slots are
+    /// free then. The freed slots are counted.
+    pub fn sweep_page(&mut self, page: u32)
+        requires unswept { is_unswept self.old page ≡ true }
+        requires few { self.old.counters.freed < 2 ^ 62 }
+        ensures { self.new ≡ swept self.old page }
+    {
+        self.pools.page_count();
+        let gone = sweep_one(&mut self.pools, &mut self.marks, page, &mut self.working);
+        self.freed += u64::from(gone);
+    }
+
+    // The least address on a page, from this one on, where a gone object stands.
+    fn next_gone_on(&self, page: u32, from: u64) -> Option<u64>
+        requires { page < length self.now.pages }
+        ensures { MatchOption result (HasNoneOn self.now page from) (IsNextGoneOn self.now page from) }
+    {
+        self.pools.page_count();
+        match self.pools.page_pool(page) {
+            Some(pool) => {
+                let start = first_slot(page, pool, from);
+                match marks_of(&self.marks, page).dead.first_set_from(start) {
+                    Some(slot) => Some(address_of(page, pool, slot)),
+                    None => None,
+                }
+            }
+            None => None,
+        }
+    }
+
+    /// The least address not below `from` where a gone object stands, or `None` where none does. A walk
+    /// from one to the next over all of them looks at each slot once.
+    pub fn next_gone(&self, from: u64) -> Option<u64>
+        ensures { MatchOption result (HasNoGoneFrom self.now from) (IsNextGone self.now from) }
+    {
+        let mut page = (from / 65536).saturating_sub(1);
+        'pages: while page < u64::from(self.page_count()) {
+            if let Some(address) = self.next_gone_on(page as u32, from) {
+                return Some(address);
+            }
+            page += 1;
+        }
+        None
+    }
+}

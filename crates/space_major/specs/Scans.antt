@@ -1,0 +1,33 @@
+-- What a visit of a word and a scan of an object leave.
+use Rattle.std.specs.Prelude.{ℕ, Bool, true, false, ◌&&◌, List, if◌then◌else◌}
+use Rattle.std.specs.List.{fold}
+use Rattle.space_heap.specs.declared.colour.Colour.{Colour}
+use Rattle.space_heap.specs.declared.colour.Colour.TheVariants.{White, Grey, Black}
+use Rattle.space_heap.specs.HeapView.{HeapView}
+use Rattle.space_heap.specs.Objects.{is_object, object_of}
+use Rattle.space_heap.specs.Marking.{colour_of, greyed, blackened}
+
+-- the words of the fields of the object at an address
+abbrev pub fields_of : HeapView → ℕ → List ℕ
+fields_of v a = (object_of v a).fields
+
+abbrev pub is_white : Colour → Bool
+is_white White = true
+is_white Grey = false
+is_white Black = false
+
+-- a word was visited: a white object that it names is grey
+abbrev pub visited : HeapView → ℕ → HeapView
+visited v word = if is_object v word && is_white (colour_of v word) then greyed v word else v
+
+-- words were visited in their order
+unfoldable pub visited_all : HeapView → List ℕ → HeapView
+visited_all v words = fold visited v words
+
+-- the fields of an object were visited in their order
+abbrev pub read_object : HeapView → ℕ → HeapView
+read_object v a = visited_all v (fields_of v a)
+
+-- the object that became grey last was scanned: it is black, and its fields were visited
+abbrev pub scanned : HeapView → ℕ → HeapView
+scanned v a = read_object (blackened v a) a

@@ -1,0 +1,149 @@
+-- What a state is like after all its pages were swept, and after a whole collection.
+use Rattle.std.proofs.Common.{◌≡◌, ℕ, ◌+◌, ◌||◌, cond, true, List, [], ◌∷◌, ◌++◌, Bool, length, nat_eq, refl, sym, ap, ◌∙◌, subst, arith, Option, None, Some, ⊎_elim}
+use Rattle.std.specs.Prelude.{is_some}
+use Rattle.std.specs.Set.{is_member}
+use Rattle.std.specs.Ordering.{nat_cmp}
+use Rattle.std.specs.FinMap.{FinMap, get}
+use Rattle.std.proofs.lemmas.Bool.{cases_Bool, cases_eq, or_left, eq-eqb, ne_eqb}
+use Rattle.std.proofs.lemmas.List.{length-append}
+use Rattle.space_model.specs.declared.event.Kind.{Kind}
+use Rattle.space_model.specs.declared.event.Kind.TheVariants.{Minor, Major, Full}
+use Rattle.space_model.specs.declared.phase.Phase.TheVariants.{Idle}
+use Rattle.space_model.specs.Collections.{aged, sweep_phase, took, Took, swept, Sweep1, Sweeps, SweepAll}
+use Rattle.space_model.specs.Maps.{without}
+use Rattle.space_model.specs.Moments.{noted}
+use Rattle.space_model.specs.Pages.{pool_at, pool_pages, is_used, spared}
+use Rattle.space_model.specs.Sound.{Sound}
+use Rattle.space_model.specs.State.{State}
+use Rattle.space_model.specs.Verdicts.{IsVerdict}
+use Rattle.space_model.proofs.CollectionsKept.{Sound-took, Sound-sweeps}
+use Rattle.space_model.proofs.PageLaws.{member-pool_pages, pool_at-spared, pool_at-spared_page, length-spared}
+use Rattle.space_model.proofs.SweepKept.{no_corpse}
+
+-- after the sweep of these pages: one of them is spare where nothing stands on it, and what roots, fields and stack words stand for
+-- is as it was
+pub record IsSwept (unswept freed : List ℕ) (s t : State) : Type 0 where
+  pub graph : t.graph ≡ s.graph
+  pub roots : t.roots ≡ s.roots
+  pub stack : t.stack ≡ s.stack
+  pub place : t.heap.place ≡ s.heap.place
+  pub left : t.heap.left ≡ s.heap.left
+  pub limit : t.heap.limit ≡ s.heap.limit
+  pub none_waits : t.heap.unswept ≡ []
+  pub pools : (q : ℕ) → pool_at t.heap.pages q ≡ cond (is_member nat_eq unswept q) (cond (is_used s.heap.place q) (pool_at s.heap.pages q) None) (pool_at s.heap.pages q)
+  pub page_count : length t.heap.pages ≡ length s.heap.pages
+  pub outlived : t.collector.outlived ≡ s.collector.outlived
+  pub phase : s.collector.phase ≡ sweep_phase unswept → t.collector.phase ≡ Idle
+  pub total : t.counters.freed ≡ s.counters.freed + length freed
+
+pools_swept : (place : FinMap nat_cmp ℕ) (pages : List (Option ℕ)) (page : ℕ) (others : List ℕ) (q : ℕ) →
+    cond (is_member nat_eq others q) (cond (is_used place q) (pool_at (spared place page pages) q) None) (pool_at (spared place page pages) q)
+    ≡ cond (is_member nat_eq (page ∷ others) q) (cond (is_used place q) (pool_at pages q) None) (pool_at pages q)
+pools_swept place pages page others q = ⊎_elim
+    (λ same.
+    let e : pool_at (spared place page pages) q ≡ cond (is_used place q) (pool_at pages q) None = subst (λ x. pool_at (spared place page pages) x ≡ cond (is_used place x) (pool_at pages x) None) (sym same) (pool_at-spared_page place page pages) in
+    let m : is_member nat_eq (page ∷ others) q ≡ true = or_left _ _ (eq-eqb q page same) in
+    grind (arith, e, m, cases_Bool (is_used place q), cases_Bool (is_member nat_eq others q)))
+    (λ other.
+    let m : is_member nat_eq (page ∷ others) q ≡ is_member nat_eq others q = ap (λ b. b || is_member nat_eq others q) (ne_eqb q page other) in
+    ⊎_elim
+    (λ e. ap (λ o. cond (is_member nat_eq others q) (cond (is_used place q) o None) o) e ∙ ap (λ b. cond b (cond (is_used place q) (pool_at pages q) None) (pool_at pages q)) (sym m))
+    (λ (e, _). absurd (other e))
+    (pool_at-spared place page pages q))
+    (cases_eq q page)
+
+swept_one : (s t : State) (now : List ℕ) (page : ℕ) (others : List ℕ) → s.heap.unswept ≡ page ∷ others → Sweep1 s now t → t ≡ noted (swept s page others now)
+swept_one s t now page others e step =
+    let both : step.page ∷ step.others ≡ page ∷ others = sym step.first ∙ e in
+    let p : step.page ≡ page = cc in
+    let o : step.others ≡ others = cc in
+    subst (λ x. t ≡ noted (swept s x others now)) p (subst (λ xs. t ≡ noted (swept s step.page xs now)) o step.after)
+
+pub Sweeps-swept : (pages : List ℕ) (s t : State) (freed : List ℕ) → s.heap.unswept ≡ pages → Sweeps (length pages) s freed t → IsSwept pages freed s t
+Sweeps-swept [] s t freed e (none, same) = subst (λ u. IsSwept [] freed s u) (sym same) (subst (λ xs. IsSwept [] xs s s) (sym none) (record {
+  graph = refl;
+  roots = refl;
+  stack = refl;
+  place = refl;
+  left = refl;
+  limit = refl;
+  none_waits = e;
+  pools = λ q. refl;
+  page_count = refl;
+  outlived = refl;
+  phase = λ p. p;
+  total = omega arith;
+}))
+Sweeps-swept (page ∷ others) s t freed e (now, later, mid, both, step, more) =
+    let after : mid ≡ noted (swept s page others now) = swept_one s mid now page others e step in
+    let rest : Sweeps (length others) (noted (swept s page others now)) later t = subst (λ u. Sweeps (length others) u later t) after more in
+    let k = Sweeps-swept others (noted (swept s page others now)) t later refl rest in
+    record {
+      graph = k.graph;
+      roots = k.roots;
+      stack = k.stack;
+      place = k.place;
+      left = k.left;
+      limit = k.limit;
+      none_waits = k.none_waits;
+      pools = λ q. k.pools q ∙ pools_swept s.heap.place s.heap.pages page others q;
+      page_count = k.page_count ∙ length-spared s.heap.place page s.heap.pages;
+      outlived = k.outlived;
+      phase = λ p. k.phase refl;
+      total = (let a = k.total in let b : length freed ≡ length (now ++ later) = ap length both in let c = length-append now later in omega arith);
+    }
+
+pub SweepAll-swept : (s t : State) (freed : List ℕ) → SweepAll s freed t → IsSwept s.heap.unswept freed s t
+SweepAll-swept s t freed h = Sweeps-swept s.heap.unswept s t freed refl h
+
+-- after a collection without a page that waits: what was taken is gone, and each page without an object is spare
+pub record IsCollected (s : State) (kind : Kind) (taken freed : List ℕ) (t : State) : Type 0 where
+  pub graph : t.graph ≡ s.graph
+  pub roots : t.roots ≡ s.roots
+  pub stack : t.stack ≡ s.stack
+  pub place : t.heap.place ≡ without s.heap.place taken
+  pub left : t.heap.left ≡ s.heap.left
+  pub limit : t.heap.limit ≡ s.heap.limit
+  pub none_waits : t.heap.unswept ≡ []
+  pub no_corpse : (name address : ℕ) → get t.heap.corpses name ≡ Some address → ⊥
+  pub pools : (q : ℕ) → pool_at t.heap.pages q ≡ cond (is_used (without s.heap.place taken) q) (pool_at s.heap.pages q) None
+  pub page_count : length t.heap.pages ≡ length s.heap.pages
+  pub outlived : t.collector.outlived ≡ aged (without s.heap.place taken) s.collector.outlived
+  pub phase : t.collector.phase ≡ Idle
+  pub total : t.counters.freed ≡ s.counters.freed + length freed
+
+bare : (pages : List (Option ℕ)) (used : Bool) (q : ℕ) → cond (is_member nat_eq (pool_pages pages) q) (cond used (pool_at pages q) None) (pool_at pages q) ≡ cond used (pool_at pages q) None
+bare pages used q = let m = member-pool_pages pages q in none_there (pool_at pages q) m
+  where
+    none_there : (o : Option ℕ) → is_member nat_eq (pool_pages pages) q ≡ is_some o → cond (is_member nat_eq (pool_pages pages) q) (cond used o None) o ≡ cond used o None
+    none_there None m = grind (arith, m, cases_Bool used)
+    none_there (Some pool) m = grind (arith, m, cases_Bool used)
+
+same_freed : (kind : Kind) (s : State) (taken : List ℕ) → (took s kind taken).counters.freed ≡ s.counters.freed
+same_freed Minor s taken = refl
+same_freed Major s taken = refl
+same_freed Full s taken = refl
+
+pub collected : (s m t : State) (kind : Kind) (taken freed : List ℕ) → Sound s → IsVerdict s kind taken → Took s kind taken m → SweepAll m freed t → IsCollected s kind taken freed t
+collected s m t kind taken freed h v e sweep =
+    let place = without s.heap.place taken in
+    let u : State = noted (took s kind taken) in
+    let all : SweepAll u freed t = subst (λ x. SweepAll x freed t) e sweep in
+    let k = SweepAll-swept u t freed all in
+    let sound : Sound t = Sound-sweeps _ u t freed all (Sound-took s u kind taken v refl h) in
+    let idle = k.phase refl in
+    record {
+      graph = k.graph;
+      roots = k.roots;
+      stack = k.stack;
+      place = k.place;
+      left = k.left;
+      limit = k.limit;
+      none_waits = k.none_waits;
+      no_corpse = no_corpse t.graph t.heap.place t.heap.corpses t.collector.phase t.heap.pages t.heap.unswept sound.corpses sound.sweep (λ p. cc);
+      pools = λ q. k.pools q ∙ bare s.heap.pages (is_used (without s.heap.place taken) q) q;
+      page_count = k.page_count;
+      outlived = k.outlived;
+      phase = idle;
+      total = k.total ∙ ap (λ n. n + length freed) (same_freed kind s taken);
+    }

@@ -1,0 +1,23 @@
+-- Maps from names to addresses: names in ascending order, a map without some names, and names that go over to another map.
+use Rattle.std.specs.Prelude.{ℕ, ◌<◌, not, List, [], ◌∷◌, nat_eq, unwrap_or}
+use Rattle.std.specs.List.{AllPairs}
+use Rattle.std.specs.Ordering.{nat_cmp}
+use Rattle.std.specs.Set.{is_member}
+use Rattle.std.specs.FinMap.{FinMap, get, insert, retain_keys}
+
+-- the address of a name of the map
+abbrev pub address_in : FinMap nat_cmp ℕ → ℕ → ℕ
+address_in map name = unwrap_or (get map name) 0
+
+-- the names are in ascending order of their addresses, so each is there once
+abbrev pub IsRising : FinMap nat_cmp ℕ → List ℕ → Type 0
+IsRising map names = AllPairs (λ first second. address_in map first < address_in map second) names
+
+-- the map without the names
+abbrev pub without : FinMap nat_cmp ℕ → List ℕ → FinMap nat_cmp ℕ
+without map names = retain_keys map (λ name. not (is_member nat_eq names name))
+
+-- the second map, and the names with their addresses in the first
+unfoldable pub moved_over : FinMap nat_cmp ℕ → FinMap nat_cmp ℕ → List ℕ → FinMap nat_cmp ℕ
+moved_over from to [] = to
+moved_over from to (name ∷ names) = insert (moved_over from to names) name (address_in from name)

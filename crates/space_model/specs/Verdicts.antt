@@ -1,0 +1,25 @@
+-- Which names a verdict may take. That a verdict is given by marking is CRuby's; its order is this project's own.
+use Rattle.std.specs.Prelude.{◌≡◌, ℕ, true, false, List, nat_eq}
+use Rattle.std.specs.Set.{is_member}
+use Rattle.space_model.specs.declared.event.Kind.{Kind}
+use Rattle.space_model.specs.declared.event.Kind.TheVariants.{Minor, Major, Full}
+use Rattle.space_model.specs.Graph.{IsChild}
+use Rattle.space_model.specs.Maps.{IsRising}
+use Rattle.space_model.specs.Reach.{Reach}
+use Rattle.space_model.specs.State.{State, is_present}
+
+-- what each kind asks besides: a full verdict takes every present name that isn't reached. Until their commands come, minor and
+-- major verdicts ask for nothing more
+abbrev pub TakesBy : Kind → State → List ℕ → Type 0
+TakesBy Minor s taken = Unit {0}
+TakesBy Major s taken = Unit {0}
+TakesBy Full s taken = (name : ℕ) → is_present s name ≡ true → (Reach s name → ⊥) → is_member nat_eq taken name ≡ true
+
+-- the names that a verdict takes are present, in ascending order of place and each once; none of them is reached, and no present
+-- name that stays has one of them as a child
+pub record IsVerdict (s : State) (kind : Kind) (taken : List ℕ) : Type 0 where
+  pub present : (name : ℕ) → is_member nat_eq taken name ≡ true → is_present s name ≡ true
+  pub rising : IsRising s.heap.place taken
+  pub unreached : (name : ℕ) → is_member nat_eq taken name ≡ true → Reach s name → ⊥
+  pub closed : (parent name : ℕ) → is_present s parent ≡ true → is_member nat_eq taken parent ≡ false → IsChild s.graph parent name → is_member nat_eq taken name ≡ false
+  pub by_kind : TakesBy kind s taken

@@ -1,0 +1,3 @@
+pub mod Counting
+pub mod FirstPages
+pub mod GoneWaits

@@ -1,0 +1,60 @@
+// A verdict, and what it takes.
+ghost use Rattle.std.specs.Prelude.{◌≡◌, ◌↔◌, ◌<◌, ◌^◌, ℕ, [], MatchOption};
+ghost use Rattle.space_model.specs.Counts.{CountIs};
+ghost use Rattle.space_heap.specs.Objects.{object_of};
+ghost use Rattle.space_heap.specs.Sweeping.{settled, HasNoGone};
+ghost use Rattle.space_heap.specs.NextGone.{HasNoGoneFrom};
+ghost use Rattle.space_sweep.specs.Gone.{IsGone, IsUnmarked, IsNextDead};
+
+use space_heap::Heap;
+use space_model::Kind;
+
+/// A gone object that waits for the sweep of its page.
+#[derive(Clone, Copy, Debug, PartialEq, Eq)]
+pub struct Dead {
+    pub name: u64,
+    pub address: u64,
+}
+
+// How many gone objects there are.
+fn count_gone(heap: &Heap) -> u64
+    ensures { CountIs (IsGone heap.now) result }
+{
+    heap.page_count();
+    let mut from = 0;
+    let mut count = 0;
+    'gone: while let Some(address) = heap.next_gone(from) {
+        count += 1;
+        from = address + 1;
+    }
+    count
+}
+
+/// A verdict ends a marking: each object that isn't marked is gone, and each page that has a pool
+/// waits for a sweep. The answer is how many objects are gone. It takes no memory.
+pub fn verdict(heap: &mut Heap, kind: Kind) -> u64
+    requires none_grey { heap.old.grey ≡ [] }
+    requires none_gone { HasNoGone heap.old }
+    requires minors { heap.old.counters.minor_verdicts < 2 ^ 62 }
+    requires others { heap.old.counters.other_verdicts < 2 ^ 62 }
+    ensures settled { heap.new ≡ settled heap.old kind }
+    ensures taken { (a : ℕ) → IsGone heap.new a ↔ IsUnmarked heap.old a }
+    ensures gone { CountIs (IsGone heap.new) result }
+{
+    heap.settle(kind);
+    count_gone(heap)
+}
+
+/// The gone object that isn't swept yet with the least address not below `from`, or `None` where
+/// there is none.
+pub fn next_gone(heap: &Heap, from: u64) -> Option<Dead>
+    ensures { MatchOption result (HasNoGoneFrom heap.now from) (IsNextDead heap.now from) }
+{
+    match heap.next_gone(from) {
+        Some(address) => Some(Dead {
+            name: heap.name(address),
+            address,
+        }),
+        None => None,
+    }
+}

@@ -1,0 +1,8 @@
+//! Verdicts, and sweeps page by page.
+#![tactic(auto)]
+
+mod gone;
+mod pages;
+
+pub use gone::{Dead, next_gone, verdict};
+pub use pages::{first_unswept, sweep, unswept};

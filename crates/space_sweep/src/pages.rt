@@ -1,0 +1,165 @@
+// The sweep of one page after another.
+ghost use Rattle.std.specs.Prelude.{◌≡◌, ◌≢◌, ◌<◌, ◌≤◌, ◌^◌, ℕ, true, false, [], length, MatchOption, if◌then◌else◌};
+ghost use Rattle.space_heap.specs.HeapView.{is_unswept};
+ghost use Rattle.space_sweep.specs.Sweeps.{phase_left, IsFirstUnswept, IsNextUnswept, SweepsFirst};
+
+use space_heap::Heap;
+use space_model::Phase;
+
+// The lowest page from this one on that waits for a sweep.
+fn next_unswept(heap: &Heap, from: u32) -> Option<u32>
+    ensures next { MatchOption result ((page : ℕ) → from ≤ page → is_unswept heap.now page ≡ false) (IsNextUnswept heap.now from) }
+{
+    let count = heap.page_count();
+    let mut page = from;
+    'pages: while page < count {
+        if heap.page_unswept(page) {
+            return Some(page);
+        }
+        page += 1;
+    }
+    None
+}
+
+/// The lowest page that waits for a sweep, or `None` where none does.
+pub fn first_unswept(heap: &Heap) -> Option<u32>
+    ensures { MatchOption result (heap.now.unswept ≡ []) (IsFirstUnswept heap.now) }
+{
+    heap.page_count();
+    match next_unswept(heap, 0) {
+        Some(page) => Some(page),
+        None => None,
+    }
+}
+
+// 1 where it is so.
+fn one_if(so: bool) -> u32
+    ensures one { result ≡ (if so then 1 else 0) }
+    ensures few { result ≤ 1 }
+{
+    u32::from(so)
+}
+
+/// How many pages wait for a sweep.
+pub fn unswept(heap: &Heap) -> u32
+    ensures { result ≡ length heap.now.unswept }
+{
+    let mut count = 0;
+    'pages: for page in 0..heap.page_count() {
+        count += one_if(heap.page_unswept(page));
+    }
+    count
+}
+
+// The phase after the sweep of a page.
+fn next_phase(heap: &Heap) -> Phase
+    ensures { result ≡ phase_left heap.now.unswept heap.now.phase }
+{
+    match first_unswept(heap) {
+        Some(_) => heap.phase(),
+        None => Phase::Idle,
+    }
+}
+
+/// Sweeps the lowest page that waits for it, and it alone: the slots of its gone objects are free, and
+/// it is spare where no slot of it is taken then. After the last page nothing is under way. The answer
+/// is how many slots became free. It takes no memory.
+pub fn sweep(heap: &mut Heap) -> u64
+    requires some { heap.old.unswept ≢ [] }
+    requires few { heap.old.counters.freed < 2 ^ 62 }
+    ensures { SweepsFirst heap.old heap.new result }
+{
+    heap.page_count();
+    match first_unswept(heap) {
+        Some(page) => {
+            let before = heap.freed();
+            heap.sweep_page(page);
+            let phase = next_phase(heap);
+            heap.set_phase(phase);
+            let after = heap.freed();
+            after - before
+        }
+        None => unreachable!(),
+    }
+}
+
+#[cfg(test)]
+mod tests {
+    use super::*;
+    use crate::gone::{Dead, next_gone, verdict};
+    use space_heap::Colour;
+    use space_model::{Guard, Kind, Style};
+    use std::test::Fail;
+
+    // Whether an object was born that has so many fields.
+    fn is_born(heap: &mut Heap, fields: u64) -> bool {
+        fields <= 78
+            && heap.born() < 1 << 40
+            && heap.place(fields, Guard::Protected, Style::Keeping).is_ok()
+    }
+
+    // Marks the object that a word names, where it is white.
+    #[tactic(auto, using(space_heap::proofs::ObjectLaws::stands_from_word, space_heap::proofs::ObjectLaws::object_from_word))]
+    fn mark(heap: &mut Heap, word: u64) {
+        if let Some(address) = heap.object_at(word) {
+            match heap.colour(address) {
+                Colour::White => heap.grey(address),
+                _ => {}
+            }
+        }
+        if let Some(address) = heap.last_grey() {
+            heap.blacken(address);
+        }
+    }
+
+    // How many a verdict took, where nothing is grey and none is gone.
+    #[tactic(auto, using(crate::proofs::Counting::none_gone_from))]
+    fn take(heap: &mut Heap, kind: Kind) -> Option<u64> {
+        if heap.minor_verdicts() >= 1 << 40 || heap.other_verdicts() >= 1 << 40 {
+            return None;
+        }
+        match heap.last_grey() {
+            Some(_) => None,
+            None => match heap.next_gone(0) {
+                Some(_) => None,
+                None => Some(verdict(heap, kind)),
+            },
+        }
+    }
+
+    // How many slots the next sweep freed.
+    fn sweep_next(heap: &mut Heap) -> Option<u64> {
+        match first_unswept(heap) {
+            Some(_) if heap.freed() < 1 << 40 => Some(sweep(heap)),
+            _ => None,
+        }
+    }
+
+    #[test]
+    fn what_is_not_marked_is_gone_until_its_page_is_swept(rt: HostRuntime) -> Result<(), Fail> {
+        let mut heap = Heap::new(rt.alloc(), 3)?;
+        assert!(rt; heap.add_page(0) == Ok(0) && heap.add_page(1) == Ok(1));
+        for fields in [3, 3, 3, 8] {
+            assert!(rt; is_born(&mut heap, fields));
+        }
+        mark(&mut heap, 0x10028);
+        assert!(rt; take(&mut heap, Kind::Full) == Some(3));
+        for (from, name, address) in [
+            (0, 1, 0x10000),
+            (0x10001, 3, 0x10050),
+            (0x10051, 4, 0x20000),
+        ] {
+            assert!(rt; next_gone(&heap, from) == Some(Dead { name, address }));
+        }
+        assert!(rt; next_gone(&heap, 0x20001).is_none() && heap.object_at(0x10000).is_none());
+        assert!(rt; heap.lowest_free(0).is_none() && heap.phase() == Phase::Sweeping);
+        assert!(rt; first_unswept(&heap) == Some(0) && unswept(&heap) == 2);
+        assert!(rt; sweep_next(&mut heap) == Some(2));
+        assert!(rt; heap.lowest_free(0) == Some(0x10000) && heap.phase() == Phase::Sweeping);
+        assert!(rt; first_unswept(&heap) == Some(1) && unswept(&heap) == 1);
+        assert!(rt; sweep_next(&mut heap) == Some(1) && sweep_next(&mut heap).is_none());
+        assert!(rt; heap.phase() == Phase::Idle && heap.spare_pages() == 1);
+        assert!(rt; heap.freed() == 3 && heap.other_verdicts() == 1 && heap.minor_verdicts() == 0);
+        Ok(())
+    }
+}
