@@ -1,20 +1,19 @@
 -- The heap after a whole collection has what the state has after it.
-use Rattle.std.proofs.Common.{◌≡◌, ◌≢◌, ◌⊎◌, ◌&&◌, not, ℕ, ◌<◌, ◌≤◌, Bool, true, false, true≢false, cond, List, [], ◌∷◌, length, map, refl, sym, ap, ◌∙◌, subst, arith, nat_eq, Option, None, Some, ⊎_elim, inl, inr}
+use Rattle.std.proofs.Common.{◌≡◌, ◌&&◌, not, ℕ, ◌≤◌, true, false, true≢false, List, [], ◌∷◌, length, map, refl, sym, ap, ◌∙◌, nat_eq, Option, None, Some, ⊎_elim, inl}
 use Rattle.std.specs.Prelude.{unwrap_or, is_some}
 use Rattle.std.specs.List.{flat_map}
 use Rattle.std.specs.Ordering.{nat_cmp}
 use Rattle.std.specs.Set.{is_member}
-use Rattle.std.specs.FinMap.{FinMap, get, empty, get-empty}
+use Rattle.std.specs.FinMap.{FinMap, get, get-empty}
 use Rattle.std.proofs.lemmas.Bool.{cases_Bool, and_parts, and_from, or_left, eq-eqb, cond-true, cond-false, not-true}
 use Rattle.space_model.specs.declared.command.Command.TheVariants.{Gc}
 use Rattle.space_model.specs.declared.event.Kind.TheVariants.{Full}
-use Rattle.space_model.specs.declared.phase.Phase.TheVariants.{Idle}
 use Rattle.space_model.specs.declared.reply.Reply.TheVariants.{Scanned}
 use Rattle.space_model.specs.declared.value.Value.{Value}
 use Rattle.space_model.specs.declared.value.Value.TheVariants.{Nil, Small, Name}
 use Rattle.space_model.specs.Collections.{mark_started}
 use Rattle.space_model.specs.Graph.{Item, item_of, names_of, children, IsChild}
-use Rattle.space_model.specs.Layout.{page_of, page_slots, slot_address}
+use Rattle.space_model.specs.Layout.{page_of}
 use Rattle.space_model.specs.Maps.{without}
 use Rattle.space_model.specs.Operands.{value_word}
 use Rattle.space_model.specs.Pages.{pool_at as pool_of_page, is_used}
@@ -22,7 +21,7 @@ use Rattle.space_model.specs.Places.{IsFree}
 use Rattle.space_model.specs.Roots.{Root, root_names}
 use Rattle.space_model.specs.State.{State}
 use Rattle.space_model.specs.WholeCollections.{verdict_events}
-use Rattle.space_model.proofs.MapLaws.{get-without, held_without, some_get}
+use Rattle.space_model.proofs.MapLaws.{get-without, held_without}
 use Rattle.space_model.proofs.Members.{member_left, member_right}
 use Rattle.space_model.proofs.PageLaws.{page_of-slot_address, user, used_by}
 use Rattle.space_model.proofs.SweptLaws.{IsCollected}
@@ -34,18 +33,18 @@ use Rattle.space_heap.specs.FreeSlots.{is_slot_in, is_free_at, IsFreeAt}
 use Rattle.space_heap.specs.Sweeping.{settled_object}
 use Rattle.space_heap.proofs.FreeLaws.{free_by_stands, is_moved-settled}
 use Rattle.space_heap.proofs.ObjectLaws.{stands_from_object}
-use Rattle.space_heap.proofs.SettledLaws.{pool_at-settled, count-settled, stays-settled, stands-settled, is_unswept-settled, limit-settled, counters-settled}
+use Rattle.space_heap.proofs.SettledLaws.{pool_at-settled, count-settled, stays-settled, is_unswept-settled, limit-settled, counters-settled}
 use Rattle.space_heap.proofs.SlotAddresses.{slot_in-address, slot_in_parts}
 use Rattle.space_heap.proofs.SweptPages.{stands_pooled}
 use Rattle.space_roots.specs.WordRoots.{root_words}
 use Rattle.space_engine.specs.AllSwept.{AreSwept}
 use Rattle.space_engine.specs.GoneNames.{gone_names}
 use Rattle.space_engine.specs.HeapCollections.{IsHeapCollection}
-use Rattle.space_engine.specs.Stands.{IsObjectOf, HasObjects, HasCorpses, HasPages, Represents, Holds}
+use Rattle.space_engine.specs.Stands.{HasObjects, HasCorpses, HasPages, Represents, Holds}
 use Rattle.space_engine.specs.Steps.{AnswersWith}
 use Rattle.space_engine.specs.Views.{View, with_heap}
 use Rattle.space_engine.specs.Words.{word_roots}
-use Rattle.space_engine.proofs.WholeVerdicts.{w, unmarked_at, standing_object, kept_is, taken_at, taken_there, verdict_of, scans_of}
+use Rattle.space_engine.proofs.WholeVerdicts.{w, unmarked_at, kept_is, taken_at, taken_there, verdict_of, scans_of}
 
 none_some : {X : Type 0} (x : X) → ◌≡◌ {A = Option X} None (Some x) → ⊥
 none_some x e = cc

@@ -1,16 +1,15 @@
 -- How many pages wait for a sweep, and what a heap is after all of them were swept.
-use Rattle.std.proofs.Common.{◌≡◌, ℕ, ◌+◌, ◌*◌, ◌≤◌, Bool, true, false, true≢false, not, [], length, nat_eq, refl, sym, ap, ◌∙◌, arith, ⊎_elim}
+use Rattle.std.proofs.Common.{◌≡◌, ℕ, ◌+◌, ◌*◌, ◌≤◌, true, false, true≢false, [], length, nat_eq, sym, ap, ◌∙◌, arith, ⊎_elim}
 use Rattle.std.specs.Prelude.{count_by, is_some}
 use Rattle.std.specs.List.{range_with_len}
 use Rattle.std.specs.Set.{is_member}
-use Rattle.std.proofs.lemmas.Bool.{cases_Bool, and_parts}
+use Rattle.std.proofs.lemmas.Bool.{cases_Bool, and_parts, not-true}
 use Rattle.std.proofs.lemmas.List.FromFn.{length-range_with_len}
 use Rattle.std.proofs.lemmas.List.Sums.{length-filter, count_by-le-length}
 use Rattle.space_model.specs.declared.event.Kind.{Kind}
 use Rattle.space_model.specs.declared.event.Kind.TheVariants.{Full}
 use Rattle.space_model.specs.declared.phase.Phase.TheVariants.{Idle}
 use Rattle.space_model.specs.Layout.{page_of}
-use Rattle.space_heap.specs.Slots.{ObjectView}
 use Rattle.space_heap.specs.HeapView.{Counters, HeapView, pool_at, is_unswept}
 use Rattle.space_heap.specs.Objects.{stands, is_object, object_of, HasNoMoved}
 use Rattle.space_heap.specs.SoundHeap.{IsSoundHeap}
@@ -37,10 +36,6 @@ unswept_most v sound =
 pub freed_few : (w z : HeapView) → IsSoundHeap w → AreSwept w z → z.counters.freed ≤ w.counters.freed + 1638 * 4096
 freed_few w z sound h = let most = unswept_most w sound in let f = h.freed in omega arith
 
-not_gone : (b : Bool) → not b ≡ true → b ≡ false
-not_gone true e = sym e
-not_gone false e = refl
-
 module _ (w z : HeapView) (h : AreAllSwept w z) (sound : IsSoundHeap w) (all_wait : (page : ℕ) → is_some (pool_at w page) ≡ true → is_unswept w page ≡ true) where
   waits_not : (page : ℕ) → is_unswept z page ≡ false
   waits_not page = ap (λ pages. is_member nat_eq pages page) h.none_waits
@@ -53,7 +48,7 @@ module _ (w z : HeapView) (h : AreAllSwept w z) (sound : IsSoundHeap w) (all_wai
       (cases_Bool (is_unswept w (page_of a)))
 
   none_gone_left : HasNoGone z
-  none_gone_left a e = not_gone (object_of z a).gone (and_parts _ _ (sym (is_object_is z a) ∙ h.swept.objects a ∙ still_object a e)).1
+  none_gone_left a e = not-true (object_of z a).gone (and_parts _ _ (sym (is_object_is z a) ∙ h.swept.objects a ∙ still_object a e)).1
 
   pub tidy_left : HasNoMoved w → IsTidy z
   tidy_left still = record { none_gone = none_gone_left; none_moved = λ a. h.swept.moved a ∙ still a; none_waits = h.none_waits }
@@ -74,10 +69,7 @@ still_settled v kind still a = is_moved-settled v kind a ∙ still a
 pub freed_settled : (v : HeapView) (kind : Kind) → (settled v kind).counters.freed ≡ v.counters.freed
 freed_settled v kind = ap (λ (c : Counters). c.freed) (counters-settled v kind)
 
--- a marking leaves what it finds
-pub none_gone_marked : (old marked : HeapView) → SameGraph old marked → HasNoGone old → HasNoGone marked
-none_gone_marked old marked same none a e = ap (λ (o : ObjectView). o.gone) (same.objects a) ∙ none a (sym (same.standing a) ∙ e)
-
+-- a marking moves nothing
 pub still_marked : (old marked : HeapView) → SameGraph old marked → HasNoMoved old → HasNoMoved marked
 still_marked old marked same still a = same.away a ∙ still a
 

@@ -176,7 +176,7 @@ within_next v page next = ⊎_elim (λ (x : IsLeastSpare v page). let lt = x.spa
 
 -- the page has a free address
 pub has_free : (v w : HeapView) (fields page pool : ℕ) → IsNextPage v page → page_at v page ≡ no_page → is_unswept v page ≡ false → pool ≡ pool_for fields → w ≡ with_page v page pool → HasNoFree w (pool_for fields) → ⊥
-has_free v w fields page pool next blank swept its e none =
+has_free v w fields page _ next blank swept its e none =
     let free = slot_free v page (pool_for fields) (within_next v page next) blank swept (known_pool fields) 0 (has_slot fields) in
     true≢false (sym free ∙ ap (λ w. is_free_at w (pool_for fields) (slot_address page (pool_for fields) 0)) (sym (e ∙ ap (with_page v page) its)) ∙ none (slot_address page (pool_for fields) 0))
 

@@ -1,5 +1,5 @@
 -- The pages and the free addresses after a pool got a page, since no address was free for it.
-use Rattle.std.proofs.Common.{◌≡◌, ◌≢◌, ℕ, ◌+◌, ◌<◌, ◌≤◌, List, length, cond, false, ap, ◌∙◌, sym, subst, refl, arith, nat_eq, Option, None, Some, ⊎_elim, inl, inr}
+use Rattle.std.proofs.Common.{◌≡◌, ◌≢◌, ℕ, ◌+◌, ◌<◌, ◌≤◌, List, length, cond, false, ap, ◌∙◌, sym, subst, arith, nat_eq, Option, None, Some, ⊎_elim, inl, inr}
 use Rattle.std.specs.Prelude.{is_some}
 use Rattle.std.specs.Set.{is_member}
 use Rattle.std.specs.Ordering.{nat_cmp}

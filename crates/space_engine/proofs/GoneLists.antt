@@ -1,5 +1,5 @@
 -- The list of the gone objects' addresses: what is in it, its order, and how it grows from one gone object to the next.
-use Rattle.std.proofs.Common.{◌≡◌, ℕ, zero, suc, ◌+◌, ◌-◌, ◌*◌, ◌^◌, ◌<◌, ◌≤◌, Bool, true, false, true≢false, ◌&&◌, cond, List, [], ◌∷◌, ◌++◌, length, map, get_or, nat_eq, nat_le, nat_lt, refl, sym, ap, ◌∙◌, subst, arith, ⊎_elim, append-nil}
+use Rattle.std.proofs.Common.{◌≡◌, ℕ, zero, suc, ◌+◌, ◌-◌, ◌*◌, ◌^◌, ◌<◌, ◌≤◌, Bool, true, false, true≢false, ◌&&◌, List, [], ◌∷◌, ◌++◌, length, map, get_or, nat_eq, nat_le, nat_lt, refl, sym, ap, ◌∙◌, subst, arith, ⊎_elim, append-nil}
 use Rattle.std.specs.Prelude.{AllPairs, ◌↔◌}
 use Rattle.std.specs.List.{range_with_len, filter, IsDistinct}
 use Rattle.std.specs.Set.{is_member}
@@ -22,7 +22,7 @@ use Rattle.space_heap.specs.NextGone.{HasNoGoneFrom, IsNextGone}
 use Rattle.space_heap.specs.Sweeping.{is_gone}
 use Rattle.space_heap.proofs.Laws.{page_in_heap}
 use Rattle.space_heap.proofs.ObjectLaws.{slot_from_stands}
-use Rattle.space_heap.proofs.SweptPages.{stands_from_gone}
+use Rattle.space_heap.proofs.SweptPages.{stands_from_gone, standing_below}
 use Rattle.space_engine.specs.GoneNames.{gone_below, gone_addresses, name_at, gone_names}
 
 -- a range in two parts
@@ -56,6 +56,10 @@ rising_range a n i j d lt within =
 pub gone_small : (v : HeapView) (a : ℕ) → is_gone v a ≡ true → a < 65536 * (length v.pages + 1)
 unfolding page_of
 gone_small v a e = let page = page_in_heap v a (slot_from_stands v a (stands_from_gone v a e)) in grind arith
+
+-- the address of the next gone object is small
+pub next_gone_small : (v : HeapView) (from a : ℕ) → IsSoundHeap v → IsNextGone v from a → a < 2 ^ 29
+next_gone_small v from a sound n = standing_below v a sound (stands_from_gone v a n.is)
 
 -- the gone objects below an address, and those from there on
 pub gone_split : (v : HeapView) (m k : ℕ) → gone_below v (m + k) ≡ gone_below v m ++ filter (is_gone v) (range_with_len m k)

@@ -1,5 +1,5 @@
 -- What the heap's answers tell of a word.
-use Rattle.std.proofs.Common.{◌≡◌, ℕ, cond, true, false, ap, ◌∙◌, sym, subst, None, Some, ⊎_elim}
+use Rattle.std.proofs.Common.{◌≡◌, ℕ, cond, true, false, ◌∙◌, sym, subst, None, Some, ⊎_elim}
 use Rattle.std.proofs.lemmas.Bool.{cases_Bool, cond-true, cond-false}
 use Rattle.space_heap.specs.HeapView.{HeapView}
 use Rattle.space_heap.specs.Objects.{stands, is_object}

@@ -19,5 +19,5 @@ mod Tidying
 mod Reserving
 mod Answering
 mod Stepping
-pub mod GoneLists
+mod GoneLists
 pub mod ToldLines

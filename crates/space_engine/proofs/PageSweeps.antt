@@ -1,13 +1,13 @@
 -- The sweep of one page after another.
-use Rattle.std.proofs.Common.{◌≡◌, ◌≢◌, ℕ, ◌+◌, ◌*◌, ◌<◌, ◌≤◌, Bool, true, false, not, ◌&&◌, List, [], ◌∷◌, length, refl, sym, ap, ◌∙◌, subst, arith, nat_eq, Option, None, Some, true≢false, ⊎_elim}
+use Rattle.std.proofs.Common.{◌≡◌, ◌≢◌, ℕ, ◌+◌, ◌<◌, true, false, List, [], ◌∷◌, length, sym, ap, ◌∙◌, subst, arith, nat_eq, true≢false, ⊎_elim}
 use Rattle.std.specs.Set.{is_member}
-use Rattle.std.proofs.lemmas.Bool.{cases_Bool, cases_eq, eq-eqb}
+use Rattle.std.proofs.lemmas.Bool.{cases_Bool, cases_eq}
 use Rattle.std.proofs.lemmas.Bool.Decides.{nat_tests}
 use Rattle.space_model.specs.declared.phase.Phase.{Phase}
 use Rattle.space_model.specs.declared.phase.Phase.TheVariants.{Idle}
 use Rattle.space_model.specs.Layout.{page_of}
 use Rattle.space_heap.specs.HeapView.{Counters, HeapView, pool_at, is_unswept}
-use Rattle.space_heap.specs.Objects.{stands, is_object, object_of, is_moved, HasNoMoved}
+use Rattle.space_heap.specs.Objects.{stands, is_object, HasNoMoved}
 use Rattle.space_heap.specs.SoundHeap.{IsSoundHeap}
 use Rattle.space_heap.specs.Sweeping.{swept}
 use Rattle.space_heap.proofs.FreedCounts.{freed_most}
@@ -16,28 +16,7 @@ use Rattle.space_heap.proofs.PhaseLaws.{stands-in_phase, is_object-in_phase, obj
 use Rattle.space_heap.proofs.SweptLaws.{stands-swept_same, stands-swept_other, is_object-swept, object_of-swept, pool_at-swept_other, count-swept, is_unswept-swept, limit-swept, grey-swept, counters-swept}
 use Rattle.space_heap.proofs.SweptPages.{pool_at-swept_kept, pool_at-swept_spare, unswept-swept_first}
 use Rattle.space_sweep.specs.Sweeps.{SweepsFirst, phase_left}
-use Rattle.space_engine.specs.AllSwept.{IsEmptyPage, AreSwept, AreAllSwept}
-
--- nothing was swept yet
-pub none_swept : (w : HeapView) → AreSwept w w
-none_swept w = record {
-  objects = λ a. refl;
-  same = λ a e. refl;
-  moved = λ a. refl;
-  fewer = λ page e. e;
-  waits = λ a e. refl;
-  pools = λ page e. refl;
-  swept = λ a e f. absurd (true≢false (sym e ∙ f));
-  spare = λ page e f. absurd (true≢false (sym e ∙ f));
-  used = λ a e f. refl;
-  count = refl;
-  limit = refl;
-  grey = refl;
-  born = refl;
-  minor_verdicts = refl;
-  other_verdicts = refl;
-  freed = omega arith;
-}
+use Rattle.space_engine.specs.AllSwept.{AreSwept}
 
 module _ (w v : HeapView) (h : AreSwept w v) (still : HasNoMoved w) (sound : IsSoundHeap v) (page : ℕ) (others : List ℕ) (first : v.unswept ≡ page ∷ others) (phase : Phase) where
   abbrev z : HeapView

@@ -1,5 +1,5 @@
 -- A birth, on a page that has a free slot or on one that its pool gets.
-use Rattle.std.proofs.Common.{◌≡◌, ◌≢◌, ℕ, zero, suc, ◌+◌, List, [], ◌∷◌, ◌++◌, length, length-append, map, replicate, true, false, true≢false, ap, ◌∙◌, sym, subst, refl, arith, nat_eq, Option, Some, ⊎_elim}
+use Rattle.std.proofs.Common.{◌≡◌, ◌≢◌, ℕ, zero, suc, ◌+◌, List, [], ◌∷◌, ◌++◌, length, length-append, map, replicate, true, true≢false, ap, ◌∙◌, sym, subst, refl, arith, nat_eq, Option, Some, ⊎_elim}
 use Rattle.std.specs.List.{flat_map}
 use Rattle.std.specs.Option.{unwrap_or}
 use Rattle.std.specs.Set.{is_member}

@@ -18,7 +18,7 @@ use Rattle.space_model.specs.Reached.{names_at}
 use Rattle.space_model.specs.Roots.{root_value}
 use Rattle.space_model.specs.State.{State}
 use Rattle.space_model.specs.Words.{IsSmallWord}
-use Rattle.space_model.proofs.StackWords.{named_by-place, named_by-none, word_value-back, word_value-small}
+use Rattle.space_model.proofs.StackWords.{named_by-place, named_by-none, word_value-back}
 use Rattle.space_model.proofs.ReachedLaws.{member-names_at}
 use Rattle.space_model.proofs.ValuesKept.{present_kept, small_kept}
 use Rattle.space_heap.proofs.MovedLaws.{resolved_unmoved}
@@ -112,20 +112,15 @@ module _ (v : View) (s : State) (h : Holds v s) where
       word_gives None e = absurd (ok_err word NoWord (sym e))
       word_gives (Some w) e = ap (λ n. ok_or (word_value s.heap.place n) NotObject) (ok_same w word e)
 
--- the value of a word that is not 0 and of no small integer
 no_small : (word : ℕ) → ((number : ℕ) → IsSmallWord word number → ⊥) → (nat_lt word (2 ^ 63) && (word % 2 == 1)) ≡ false
 no_small word none = ⊎_elim
     (λ t. absurd (none (word / 2) (let p = and_parts _ _ t in let below : word < 2 ^ 63 = grind (arith, nat_tests, p.0) in let odd : word % 2 ≡ 1 = eqb-true _ _ p.1 in record { is = omega (arith, odd); small = omega (arith, below) })))
     (λ f. f)
     (cases_Bool (nat_lt word (2 ^ 63) && (word % 2 == 1)))
 
+-- the value of a word that is not 0 and of no small integer
 pub word_value-named : (place : FinMap nat_cmp ℕ) (word : ℕ) → (word ≡ 0 → ⊥) → ((number : ℕ) → IsSmallWord word number → ⊥) → word_value place word ≡ option_map Name (named_by place word)
 word_value-named place word some none = rw (ne_eqb word 0 some, no_small word none) refl
-
-pub word_value-of_small : (place : FinMap nat_cmp ℕ) (word number : ℕ) → IsSmallWord word number → word_value place word ≡ Some (Small number)
-word_value-of_small place word number small = ap (word_value place) small.is ∙ word_value-small place number small.small
-
--- the word of the value of a word
 
 some_same_value : (a b : Value) → ◌≡◌ {A = Option Value} (Some a) (Some b) → a ≡ b
 some_same_value a b e = cc
@@ -134,6 +129,7 @@ first_member : (names : List ℕ) (name : ℕ) → slice_get names 0 ≡ Some na
 first_member [] name e = absurd (cc)
 first_member (n ∷ names) name e = or_left _ _ (eq-eqb name n (sym (let f : n ≡ name = cc in f)))
 
+-- the name that a word names has the word as its place
 pub named_by-back : (place : FinMap nat_cmp ℕ) (word name : ℕ) → named_by place word ≡ Some name → get place name ≡ Some word
 named_by-back place word name e = (member-names_at place word name).0 (first_member (names_at place word) name e)
 
@@ -143,8 +139,9 @@ named_word place word (Some name) value e v =
     ap (value_word place) (sym (some_same_value (Name name) value v)) ∙ ap (λ (o : Option ℕ). unwrap_or o 0) (named_by-back place word name e)
 
 odd_word : (word : ℕ) → (nat_lt word (2 ^ 63) && (word % 2 == 1)) ≡ true → 2 * (word / 2) + 1 ≡ word
-odd_word word t = let p = and_parts _ _ t in let odd : word % 2 ≡ 1 = eqb-true _ _ p.1 in omega (arith, odd)
+odd_word word t = let odd : word % 2 ≡ 1 = eqb-true (word % 2) 1 (and_parts (nat_lt word (2 ^ 63)) (word % 2 == 1) t).1 in omega (arith, odd)
 
+-- the word of the value of a word is the word
 pub word_value-forth : (place : FinMap nat_cmp ℕ) (word : ℕ) (value : Value) → word_value place word ≡ Some value → value_word place value ≡ word
 word_value-forth place word value e = ⊎_elim
     (λ (is_nil : (word == 0) ≡ true).

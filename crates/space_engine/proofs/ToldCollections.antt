@@ -1,26 +1,18 @@
 -- The command `gc`, from what was done to the heap and what was written.
-use Rattle.std.proofs.Common.{◌≡◌, ◌<◌, ◌≤◌, ◌+◌, ◌^◌, ℕ, suc, List, [], ◌∷◌, ◌++◌, length, map, true, refl, sym, ap, ◌∙◌, subst, arith, Option}
-use Rattle.std.specs.Set.{is_member}
-use Rattle.std.specs.Prelude.{nat_eq}
-use Rattle.std.specs.Io.KnownBytes.{Appends}
-use Rattle.space_io.specs.Sinks.{AppendsPrefix}
+use Rattle.std.proofs.Common.{◌≡◌, ◌<◌, ◌^◌, ℕ, suc, List, [], ◌∷◌, ◌++◌, length, map, refl, sym, ap, ◌∙◌, subst, arith, Option}
 use Rattle.space_model.specs.declared.command.Command.TheVariants.{Gc}
-use Rattle.space_model.specs.declared.event.Event.{Event}
 use Rattle.space_model.specs.declared.event.Event.TheVariants.{Gone, Verdict}
 use Rattle.space_model.specs.declared.event.Kind.TheVariants.{Full}
 use Rattle.space_model.specs.declared.reply.Reply.TheVariants.{Scanned}
 use Rattle.space_model.specs.Outputs.{Told}
-use Rattle.space_model.specs.State.{State}
-use Rattle.space_model.specs.Texts.{AreSpelled}
 use Rattle.space_model.specs.WholeCollections.{verdict_events}
 use Rattle.space_heap.specs.HeapView.{HeapView}
-use Rattle.space_heap.specs.Sweeping.{is_gone, settled}
+use Rattle.space_heap.specs.Sweeping.{settled}
 use Rattle.space_roots.specs.WordRoots.{root_words}
 use Rattle.space_engine.specs.Answered.{IsLawfulAnswer, IsAnswered, IsCutOff}
 use Rattle.space_engine.specs.Counting.{no_counts, counts_of, sum_of_counts}
-use Rattle.space_engine.specs.GoneNames.{name_at, gone_names}
+use Rattle.space_engine.specs.GoneNames.{name_at}
 use Rattle.space_engine.specs.HeapCollections.{IsHeapCollection, IsToldCollection, IsCutCollection}
-use Rattle.space_engine.specs.Stands.{Holds}
 use Rattle.space_engine.specs.Views.{View, with_heap}
 use Rattle.space_engine.proofs.AfterCollections.{collected_answers, taken_born}
 use Rattle.space_engine.proofs.GoneLists.{member_gone_names}

@@ -1,5 +1,5 @@
 -- A whole collection of the heap is a full verdict of the state.
-use Rattle.std.proofs.Common.{◌≡◌, ◌≢◌, ◌&&◌, not, ℕ, Bool, true, false, true≢false, List, [], length, map, refl, sym, ap, ◌∙◌, subst, nat_eq, Option, Some, ⊎_elim}
+use Rattle.std.proofs.Common.{◌≡◌, ◌≢◌, ◌&&◌, not, ℕ, Bool, true, false, true≢false, List, [], refl, sym, ap, ◌∙◌, subst, nat_eq, Option, Some, ⊎_elim}
 use Rattle.std.specs.Prelude.{◌↔◌, unwrap_or, is_some}
 use Rattle.std.specs.Set.{is_member}
 use Rattle.std.specs.FinMap.{get}
@@ -19,12 +19,10 @@ use Rattle.space_heap.specs.declared.colour.Colour.TheVariants.{White, Grey, Bla
 use Rattle.space_heap.specs.Slots.{ObjectView}
 use Rattle.space_heap.specs.HeapView.{HeapView}
 use Rattle.space_heap.specs.Objects.{stands, is_object, object_of}
-use Rattle.space_heap.specs.Marking.{colour_of, whitened}
+use Rattle.space_heap.specs.Marking.{colour_of}
 use Rattle.space_heap.specs.Sweeping.{is_white, is_gone, settled}
-use Rattle.space_heap.proofs.ObjectLaws.{is_object_is, stands_from_object}
+use Rattle.space_heap.proofs.ObjectLaws.{stands_from_object}
 use Rattle.space_heap.proofs.SettledLaws.{is_gone-settled, is_object-settled, stays-settled}
-use Rattle.space_major.specs.Graph.{IsLive}
-use Rattle.space_major.specs.Marking.{IsMarked}
 use Rattle.space_roots.specs.WordRoots.{root_words}
 use Rattle.space_engine.specs.GoneNames.{name_at, gone_names}
 use Rattle.space_engine.specs.HeapCollections.{IsHeapCollection}

@@ -1,6 +1,5 @@
 -- The heap after every page that waited was swept.
 use Rattle.std.specs.Prelude.{◌≡◌, ℕ, ◌+◌, ◌*◌, ◌≤◌, true, false, [], length, None}
-use Rattle.space_model.specs.declared.phase.Phase.TheVariants.{Idle}
 use Rattle.space_model.specs.Layout.{page_of}
 use Rattle.space_heap.specs.HeapView.{HeapView, pool_at, is_unswept}
 use Rattle.space_heap.specs.Objects.{stands, is_object, object_of, is_moved}

@@ -7,6 +7,7 @@ use Rattle.space_model.specs.declared.reply.Reply.TheVariants.{Made, Full, NoMem
 use Rattle.space_model.specs.Outputs.{Output, Told, Replied}
 use Rattle.space_engine.specs.declared.counts.Counts.{Counts}
 
+-- nothing was counted
 abbrev pub no_counts : Counts
 no_counts = record { objects = 0; gone = 0; moves = 0; finals = 0; full = 0; errors = 0; no_memory = 0 }
 
@@ -23,6 +24,7 @@ abbrev pub event_counts : Event → Counts
 event_counts (Gone name) = record no_counts { gone = 1 }
 event_counts (Verdict kind gone) = no_counts
 
+-- both together
 abbrev pub sum_of_counts : Counts → Counts → Counts
 sum_of_counts a b = record {
   objects = a.objects + b.objects;
@@ -34,6 +36,7 @@ sum_of_counts a b = record {
   no_memory = a.no_memory + b.no_memory;
 }
 
+-- what is counted of an event or a reply
 abbrev pub output_counts : Output → Counts
 output_counts (Told event) = event_counts event
 output_counts (Replied reply) = reply_counts reply

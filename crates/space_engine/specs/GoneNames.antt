@@ -17,5 +17,6 @@ gone_addresses v = gone_below v (65536 * (length v.pages + 1))
 abbrev pub name_at : HeapView → ℕ → ℕ
 name_at v a = (object_of v a).name
 
+-- the names of all gone objects, in the order of their addresses
 abbrev pub gone_names : HeapView → List ℕ
 gone_names v = map (name_at v) (gone_addresses v)

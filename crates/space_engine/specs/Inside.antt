@@ -4,9 +4,11 @@ use Rattle.space_engine.specs.declared.space.Space.TheInside.{Inside as SpaceIns
 use Rattle.space_engine.specs.Tidy.{IsWithinTurns}
 use Rattle.space_engine.specs.Views.{View, SpaceView}
 
+-- the parts of an engine
 abbrev pub view_of : EngineInside → View
 view_of a = record { heap = a.heap; roots = a.roots; stack = a.stack }
 
+-- the whole space
 abbrev pub space_of : SpaceInside → SpaceView
 space_of a = record { parts = a.engine; turns = a.turns; is_spent = a.is_spent }
 

@@ -1,6 +1,5 @@
 -- What holds of a space's heap between commands, and how far one command can change its counts.
 use Rattle.std.specs.Prelude.{◌≡◌, ℕ, ◌+◌, ◌*◌, ◌≤◌, []}
-use Rattle.space_model.specs.declared.phase.Phase.TheVariants.{Idle}
 use Rattle.space_heap.specs.HeapView.{HeapView}
 use Rattle.space_heap.specs.Objects.{HasNoMoved}
 use Rattle.space_heap.specs.Sweeping.{HasNoGone}

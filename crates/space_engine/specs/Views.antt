@@ -4,6 +4,7 @@ use Rattle.space_heap.specs.HeapView.{HeapView, empty_heap}
 use Rattle.space_heap.specs.Objects.{written}
 use Rattle.space_roots.specs.WordRoots.{with_root_word, without_root}
 
+-- the parts of a space
 pub record View : Type 0 where
   pub heap : HeapView
   -- the names of roots and the words that they hold
@@ -47,5 +48,6 @@ pub record SpaceView : Type 0 where
   -- a write failed, and no command may be given any more
   pub is_spent : Bool
 
+-- no command was given yet
 abbrev pub empty_space : ℕ → SpaceView
 empty_space limit = record { parts = empty_view limit; turns = 0; is_spent = false }

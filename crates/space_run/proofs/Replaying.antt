@@ -1,6 +1,6 @@
 -- A replay goes on by one line, and how it ends.
 use Rattle.std.proofs.lemmas.Bool.Decides.{eqb_tells}
-use Rattle.std.proofs.Common.{◌≡◌, ◌≢◌, ◌⊎◌, ◌+◌, ◌≤◌, ◌<◌, ◌^◌, ℕ, List, [], ◌∷◌, ◌++◌, Option, Some, None, refl, ap, ◌∙◌, sym, subst, Result, Ok, Err, is_err, IfOk, false, true, IsTrue, IsFalse, Bool, length, length-append, arith, inl, inr, ⊎_elim}
+use Rattle.std.proofs.Common.{◌≡◌, ◌≢◌, ◌⊎◌, ◌+◌, ◌≤◌, ◌<◌, ◌^◌, ℕ, List, [], ◌∷◌, ◌++◌, Option, Some, None, refl, ap, ◌∙◌, sym, subst, Result, Ok, Err, is_err, IfOk, OnErr, false, true, IsTrue, IsFalse, Bool, length, length-append, arith, inl, inr, ⊎_elim}
 use mathlib.Core.List.{append_assoc}
 use Rattle.std.specs.List.{onto_first}
 use Rattle.std.proofs.lemmas.List.{append-nil}
@@ -8,6 +8,7 @@ use Rattle.std.specs.Io.KnownBytes.{Appends, Consumes}
 use Rattle.std.proofs.KnownBytes.{Appends-nil, Appends-trans, Consumes-nil, Consumes-trans}
 use Rattle.space_io.specs.Reading.{Reading, Takes, Gives, IsUnfinished, at_start}
 use Rattle.space_io.specs.Next.{IsEnd}
+use Rattle.space_io.specs.Sinks.{AppendsPrefix}
 use Rattle.space_model.specs.declared.command.Command.{Command}
 use Rattle.space_model.specs.Grammar.{AreCommands, IsReading}
 use Rattle.space_model.specs.Lines.{lines_of, HasNoLf, StartsTooLong, MOST_BYTES}
@@ -15,13 +16,14 @@ use Rattle.space_model.specs.State.{opening}
 use Rattle.space_model.specs.Texts.{text_of, line_of_pieces, malformed_pieces}
 use Rattle.space_model.proofs.RunLemmas.{LawfulAll-more, AreCommands-more, text_of-append, AreSpelled-append}
 use Rattle.space_run.specs.Progress.{HasReplayed}
-use Rattle.space_run.specs.Replays.{Replays, StopsAtLine, HasBadNext, IsCutOff, HasFailedRead, HasReachedLimit, IsMalformed, IsWholeInput}
+use Rattle.space_run.specs.Replays.{Replays, StopsAtLine, HasBadNext, IsCutOff, HasFailedRead, HasFailedWrite, HasReachedLimit, IsMalformed, IsWholeInput}
 use Rattle.space_engine.specs.declared.counts.Counts.{Counts}
 use Rattle.space_engine.specs.declared.space.StepFault.{StepFault}
 use Rattle.space_engine.specs.Counting.{counts_of}
 use Rattle.space_engine.specs.Stands.{Stands}
 use Rattle.space_engine.specs.Steps.{Steps}
 use Rattle.space_engine.specs.Views.{SpaceView}
+use Rattle.space_engine.proofs.ToldLines.{prefix_after}
 
 -- before the first line
 pub started : (r w : Option (List ℕ)) (limit : ℕ) (view : SpaceView) → Stands view (opening limit) → HasReplayed limit r r w w at_start view
@@ -155,6 +157,60 @@ stopped limit r0 r w0 w w' mid view number h few e next written =
       lawful = h.lawful;
       spelled = h.spelled;
       written = Appends-trans w0 w w' (text_of h.outputs) (line_of_pieces (malformed_pieces (length h.lines + 1))) h.written (subst (λ n. Appends w w' (line_of_pieces (malformed_pieces n))) place written);
+    }
+
+-- the same, and a front of it was written
+pub stopped_early : (limit : ℕ) (r0 r w0 w w' : Option (List ℕ)) (mid : Reading) (view : SpaceView) (number : ℕ) → (h : HasReplayed limit r0 r w0 w mid view) → number ≡ mid.number + 1 →
+    ((more : List ℕ) → (IsTrue mid.ended → more ≡ []) → HasBadNext (h.bytes ++ more) h.lines) → AppendsPrefix w w' (line_of_pieces (malformed_pieces number)) → HasFailedWrite limit r0 r w0 w'
+stopped_early limit r0 r w0 w w' mid view number h e next front =
+    let place : number ≡ length h.lines + 1 = e ∙ ap (λ n. n + 1) h.numbered in
+    record {
+      bytes = h.bytes;
+      taken = h.taken;
+      ended = mid.ended;
+      at_end = h.at_end;
+      lines = h.lines;
+      cut = λ more ended. (lines_of (mid.pending ++ more), h.cut more ended);
+      commands = h.commands;
+      read = h.read;
+      outputs = h.outputs;
+      state = h.state;
+      lawful = h.lawful;
+      spelled = h.spelled;
+      ending = line_of_pieces (malformed_pieces (length h.lines + 1));
+      ending_is = inr (refl, next);
+      front = prefix_after w0 w w' (text_of h.outputs) (line_of_pieces (malformed_pieces (length h.lines + 1))) h.written (subst (λ n. AppendsPrefix w w' (line_of_pieces (malformed_pieces n))) place front);
+    }
+
+-- a call that is an error kept its promise
+failed_promise : {T E : Type 0} {P : Type 0} (result : Result T E) → is_err result ≡ true → OnErr result P → P
+failed_promise (Ok x) e h = cc
+failed_promise (Err x) e h = h
+
+-- the next line was given, and a front of its outputs was written
+pub failed_line : (limit : ℕ) (r0 r w0 w w' : Option (List ℕ)) (mid new : Reading) (old_view view : SpaceView) (command : Command) → HasReplayed limit r0 r w0 w mid old_view → Gives mid new →
+    IsReading new.line (Some command) → (result : Result Counts StepFault) → is_err result ≡ true → OnErr result (Steps old_view view command (λ outputs. AppendsPrefix w w' (text_of outputs))) → HasFailedWrite limit r0 r w0 w'
+failed_line limit r0 r w0 w w' mid new old_view view command h gives reading result err steps =
+    let step = failed_promise result err steps h.state h.stands in
+    record {
+      bytes = h.bytes;
+      taken = h.taken;
+      ended = new.ended;
+      at_end = λ ended. h.at_end (rw gives.ended at ended);
+      lines = h.lines ++ new.line ∷ [];
+      cut = λ more ended. (
+        lines_of (new.pending ++ more),
+        h.cut more (λ told. ended (rw gives.ended told)) ∙ ap (λ xs. h.lines ++ xs) (gives.next more ended) ∙ sym (append_assoc h.lines (new.line ∷ []) (lines_of (new.pending ++ more))),
+      );
+      commands = h.commands ++ command ∷ [];
+      read = AreCommands-more h.lines new.line h.commands (Some command) h.read gives.short reading;
+      outputs = h.outputs ++ step.outputs;
+      state = step.state;
+      lawful = LawfulAll-more (opening limit) h.state step.state h.commands command h.outputs step.outputs h.lawful step.lawful;
+      spelled = AreSpelled-append h.outputs step.outputs h.spelled step.spelled;
+      ending = [];
+      ending_is = inl refl;
+      front = rw (append-nil, text_of-append) (prefix_after w0 w w' (text_of h.outputs) (text_of step.outputs) h.written step.so);
     }
 
 -- a line that was given is malformed

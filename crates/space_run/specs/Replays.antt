@@ -4,6 +4,7 @@ use Rattle.std.specs.String.{string_bytes}
 use Rattle.std.specs.declared.alloc.Global.{Global}
 use Rattle.std.specs.Io.KnownBytes.{Appends, Consumes, IsAtEnd}
 use Rattle.space_io.specs.Causes.{Rose}
+use Rattle.space_io.specs.Sinks.{AppendsPrefix}
 use Rattle.space_model.specs.declared.command.Command.{Command}
 use Rattle.space_model.specs.Grammar.{Commands, AreCommands, IsReading, IsNumber}
 use Rattle.space_model.specs.Lawful.{LawfulAll}
@@ -94,6 +95,31 @@ pub record HasReachedLimit (limit : ℕ) (rest_before rest_after written_before 
   pub bytes : List ℕ
   pub many : length bytes ≡ 2 ^ 32
   pub cut_off : IsCutOff limit rest_before rest_after written_before written_after bytes
+
+-- what is written after the answers: nothing more; or that the next line is malformed, where it is so or is too long
+abbrev pub IsEnding : List ℕ → List (List ℕ) → Bool → List ℕ → Type 0
+IsEnding bytes lines ended ending =
+    (ending ≡ [])
+    ⊎ ((ending ≡ line_of_pieces (malformed_pieces (length lines + 1))) × ((more : List ℕ) → (IsTrue ended → more ≡ []) → HasBadNext (bytes ++ more) lines))
+
+-- A write failed. The first lines of the bytes taken are commands, and a front was written of the text of outputs that are lawful
+-- for exactly these, and of the ending.
+pub record HasFailedWrite (limit : ℕ) (rest_before rest_after written_before written_after : Option (List ℕ)) : Type 0 where
+  pub bytes : List ℕ
+  pub taken : Consumes rest_before rest_after bytes
+  pub ended : Bool
+  pub at_end : IsTrue ended → IsAtEnd rest_after
+  pub lines : List (List ℕ)
+  pub cut : (more : List ℕ) → (IsTrue ended → more ≡ []) → (others : List (List ℕ)) × (lines_of (bytes ++ more) ≡ lines ++ others)
+  pub commands : List Command
+  pub read : AreCommands lines commands
+  pub outputs : List Output
+  pub state : State
+  pub lawful : LawfulAll (opening limit) commands outputs state
+  pub spelled : AreSpelled outputs
+  pub ending : List ℕ
+  pub ending_is : IsEnding bytes lines ended ending
+  pub front : AppendsPrefix written_before written_after (text_of outputs ++ ending)
 
 -- the source tells its bytes, each line of which is lawful, and they are fewer than may be taken
 pub record IsWholeInput (rest_before : Option (List ℕ)) : Type 0 where

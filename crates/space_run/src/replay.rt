@@ -4,10 +4,11 @@ ghost use Rattle.std.specs.String.{string_bytes};
 ghost use Rattle.std.specs.Io.KnownBytes.{Appends};
 ghost use Rattle.space_io.specs.Causes.{Rose};
 ghost use Rattle.space_io.specs.Reading.{at_start};
+ghost use Rattle.space_io.specs.Sinks.{AppendsPrefix};
 ghost use Rattle.space_model.specs.Grammar.{IsNumber};
 ghost use Rattle.space_model.specs.State.{opening};
 ghost use Rattle.space_model.specs.Texts.{line_of_pieces, malformed_pieces};
-ghost use Rattle.space_run.specs.Replays.{Replays, StopsAtLine, HasFailedRead, HasReachedLimit, IsReplay, IsWholeInput, IsCalm};
+ghost use Rattle.space_run.specs.Replays.{Replays, StopsAtLine, HasFailedRead, HasFailedWrite, HasReachedLimit, IsReplay, IsWholeInput, IsCalm};
 ghost use Rattle.space_engine.specs.Stands.{Stands};
 
 use space_engine::Space;
@@ -27,6 +28,7 @@ const MOST_PAGES: u64 = 4096;
 fn stop_at<K: Sink>(number: u64, sink: &mut K) -> u8
     ensures status { (result ≡ 3) ⊎ (result ≡ 5) }
     ensures written { result ≡ 3 → Appends (K.written sink.old) (K.written sink.new) (line_of_pieces (malformed_pieces number)) }
+    ensures front { AppendsPrefix (K.written sink.old) (K.written sink.new) (line_of_pieces (malformed_pieces number)) }
     ensures fault { result ≡ 5 → Rose (K.faults sink.old) (K.faults sink.new) }
     ensures counted { K.faults sink.old ≤ K.faults sink.new }
 {
@@ -54,6 +56,7 @@ fn replay<S: Source, K: Sink>(
     ensures read_fault { result ≡ 4 → Rose (S.faults source.old) (S.faults source.new) }
     ensures answered { result ≡ 4 → HasFailedRead space.parts.heap.limit (S.rest source.old) (S.rest source.new) (K.written sink.old) (K.written sink.new) }
     ensures write_fault { result ≡ 5 → Rose (K.faults sink.old) (K.faults sink.new) }
+    ensures front { result ≡ 5 → HasFailedWrite space.parts.heap.limit (S.rest source.old) (S.rest source.new) (K.written sink.old) (K.written sink.new) }
     ensures limit { result ≡ 6 → HasReachedLimit space.parts.heap.limit (S.rest source.old) (S.rest source.new) (K.written sink.old) (K.written sink.new) }
     ensures reads_counted { S.faults source.old ≤ S.faults source.new }
     ensures writes_counted { K.faults sink.old ≤ K.faults sink.new }
@@ -130,7 +133,7 @@ fn page_limit(words: &Vec<String>) -> Option<u32>
 /// | 2 | the words are no command; nothing is read or written |
 /// | 3 | a line is malformed or too long; those before it are answered |
 /// | 4 | a read failed; each whole line that came before is answered |
-/// | 5 | a write failed |
+/// | 5 | a write failed; a front of the answers was written, with the line that tells of a malformed one where it was due |
 /// | 6 | 2^32 bytes were taken without an end; each whole line of them is answered |
 pub fn run<S: Source, K: Sink>(
     alloc: Global,
@@ -154,6 +157,7 @@ pub fn run<S: Source, K: Sink>(
     ensures read_fault { result ≡ 4 → Rose (S.faults source.old) (S.faults source.new) }
     ensures answered { (limit : ℕ) → IsReplay words.now.items limit → result ≡ 4 → HasFailedRead limit (S.rest source.old) (S.rest source.new) (K.written sink.old) (K.written sink.new) }
     ensures write_fault { result ≡ 5 → Rose (K.faults sink.old) (K.faults sink.new) }
+    ensures front { (limit : ℕ) → IsReplay words.now.items limit → result ≡ 5 → HasFailedWrite limit (S.rest source.old) (S.rest source.new) (K.written sink.old) (K.written sink.new) }
     ensures limit { (limit : ℕ) → IsReplay words.now.items limit → result ≡ 6 → HasReachedLimit limit (S.rest source.old) (S.rest source.new) (K.written sink.old) (K.written sink.new) }
     ensures status { result ≤ 6 }
 

@@ -1,5 +1,5 @@
 use Rattle.std.proofs.Common.{arith, rules, sym, ap, ◌∙◌, ◌+◌}
-use Rattle.space_run.proofs.Replaying.{started, after_taking, after_line, after_blank, at_the_end, stopped, malformed_line, long_line, read_failed, limit_reached}
+use Rattle.space_run.proofs.Replaying.{started, after_taking, after_line, after_blank, at_the_end, stopped, stopped_early, failed_line, malformed_line, long_line, read_failed, limit_reached}
 use Rattle.space_run.proofs.replay.replay.Goals as goal
 
 pub each_line-init : goal.each_line-init
@@ -89,3 +89,32 @@ each_line-preserved g c =
       read_faults = omega (arith, c.each_line.invariant.read_faults, c.next.ensures.counted);
       write_faults = omega (arith, c.each_line.invariant.write_faults, c.step.ensures.cause.later);
     }
+
+pub returns-in_default-clause-front : goal.returns-in_default-clause-front
+returns-in_default-clause-front g c =
+    let next = c.next.follows.holds-at-none in
+    let found = rw c.in-Ok-Some.is at next.line in
+    let line = rw c.in-Ok-Some.field-0-is at found in
+    let done = after_taking c.args.space.parts.heap.limit _ _ _ _ _ _ _ _ c.each_line.invariant.done next.takes in
+    λ _. stopped_early c.args.space.parts.heap.limit _ _ _ _ _ next.mid _ c.in-Ok-Some.line.number done (line.number ∙ line.gives.number)
+    (malformed_line c.args.space.parts.heap.limit _ _ _ _ next.mid _ _ done line.gives (rw line.bytes at c.in_default.ensures.malformed))
+    c.stop_at-in_default.ensures.front
+
+pub returns-in-Err-TooLong-clause-front : goal.returns-in-Err-TooLong-clause-front
+returns-in-Err-TooLong-clause-front g c =
+    let next = c.next.follows.holds-at-none in
+    let fault = rw c.in-Err-TooLong.is at next.fault in
+    let long = rw c.in-Err-TooLong.field-0-is at fault.0 in
+    let done = after_taking c.args.space.parts.heap.limit _ _ _ _ _ _ _ _ c.each_line.invariant.done next.takes in
+    λ _. stopped_early c.args.space.parts.heap.limit _ _ _ _ _ next.mid _ (c.each_line.number + 1) done (ap (λ n. n + 1) (c.each_line.invariant.numbered ∙ sym next.takes.number))
+    (long_line c.args.space.parts.heap.limit _ _ _ _ next.mid _ done long)
+    c.stop_at.ensures.front
+
+pub returns-then-is_err-clause-front : goal.returns-then-is_err-clause-front
+returns-then-is_err-clause-front g c =
+    let next = c.next.follows.holds-at-none in
+    let found = rw c.in-Ok-Some.is at next.line in
+    let line = rw c.in-Ok-Some.field-0-is at found in
+    let reading = rw c.in-Some.is at c.in-Ok.ensures.found in
+    let err = sym c.is_err.ensures.value ∙ c.if-is_err.true in
+    λ _. failed_line c.args.space.parts.heap.limit _ _ _ _ _ next.mid _ _ _ c.in-Some.command (after_taking c.args.space.parts.heap.limit _ _ _ _ _ _ _ _ c.each_line.invariant.done next.takes) line.gives (rw line.bytes at reading) c.step.result err c.step.ensures.fault

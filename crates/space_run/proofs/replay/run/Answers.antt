@@ -1,5 +1,5 @@
 use Rattle.std.proofs.Common.{◌≡◌, ℕ, subst, ap, ◌∙◌}
-use Rattle.space_run.specs.Replays.{Replays, StopsAtLine, HasFailedRead, HasReachedLimit}
+use Rattle.space_run.specs.Replays.{Replays, StopsAtLine, HasFailedRead, HasFailedWrite, HasReachedLimit}
 use Rattle.space_engine.specs.Views.{SpaceView}
 use Rattle.space_run.proofs.Replaying.{no_stop, no_limit, completes}
 use Rattle.space_run.proofs.WordsLemmas.{texts_of, one_limit}
@@ -28,6 +28,12 @@ returns-clause-answered g c = λ limit words four.
     let same : c.in-Ok-new.space.parts.heap.limit ≡ limit = ap (λ (v : SpaceView). v.parts.heap.limit) c.in-Ok-new.ensures.view ∙ one_limit (texts_of c.args.words.now.items) c.in-Some.limit limit c.in-Some.ensures words in
     let Fails : ℕ → Type 0 = λ n. HasFailedRead n (g.S.Source.rest c.args.source.now) (g.S.Source.rest c.replay.new.source) (g.K.Sink.written c.args.sink.now) (g.K.Sink.written c.replay.new.sink) in
     subst Fails same (c.replay.ensures.answered four)
+
+pub returns-clause-front : goal.returns-clause-front
+returns-clause-front g c = λ limit words five.
+    let same : c.in-Ok-new.space.parts.heap.limit ≡ limit = ap (λ (v : SpaceView). v.parts.heap.limit) c.in-Ok-new.ensures.view ∙ one_limit (texts_of c.args.words.now.items) c.in-Some.limit limit c.in-Some.ensures words in
+    let Fails : ℕ → Type 0 = λ n. HasFailedWrite n (g.S.Source.rest c.args.source.now) (g.S.Source.rest c.replay.new.source) (g.K.Sink.written c.args.sink.now) (g.K.Sink.written c.replay.new.sink) in
+    subst Fails same (c.replay.ensures.front five)
 
 pub returns-clause-limit : goal.returns-clause-limit
 returns-clause-limit g c = λ limit words six.
