@@ -30,12 +30,12 @@ sound_with_page v page p within its h = record {
 abbrev one : PageSlots → ℕ
 one p = cond (is_spare p) 1 0
 
-module _ (v : PoolsView) (page slot : ℕ) (ws : List ℕ) (here : page < length v.pages) (within : slot ≤ length (page_at v page).slots) where
+module _ (v : PoolsView) (page slot : ℕ) (ws : List ℕ) (here : page < length v.pages) where
   abbrev w : PoolsView
   w = written_at v page slot ws
 
   pub sound_written_at : IsSoundPools v → IsSoundPools w
-  sound_written_at h = sound_with_page v page (written_in (page_at v page) slot ws) here (sound_written (page_at v page) slot ws within (h.sound page)) h
+  sound_written_at h = sound_with_page v page (written_in (page_at v page) slot ws) here (sound_written (page_at v page) slot ws (h.sound page)) h
 
   same_pool : (k : ℕ) → pool_at w k ≡ pool_at v k
   same_pool k = ⊎_elim
@@ -45,7 +45,7 @@ module _ (v : PoolsView) (page slot : ℕ) (ws : List ℕ) (here : page < length
 
   same_free : (k i : ℕ) → free_in (page_at w k) i ≡ free_in (page_at v k) i
   same_free k i = ⊎_elim
-      (λ same. ap (λ p. free_in p i) (ap (page_at w) same ∙ page_at-with_page_same v page (written_in (page_at v page) slot ws) here) ∙ free_written (page_at v page) slot ws i within ∙ ap (λ k. free_in (page_at v k) i) (sym same))
+      (λ same. ap (λ p. free_in p i) (ap (page_at w) same ∙ page_at-with_page_same v page (written_in (page_at v page) slot ws) here) ∙ free_written (page_at v page) slot ws i ∙ ap (λ k. free_in (page_at v k) i) (sym same))
       (λ other. ap (λ p. free_in p i) (page_at-with_page_other v page k (written_in (page_at v page) slot ws) other))
       (cases_eq k page)
 

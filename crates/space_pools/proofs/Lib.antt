@@ -1,6 +1,6 @@
 mod Pages
-mod Spreads
 mod Written
+mod Linked
 mod Kept
 pub mod Freed
 pub mod Places

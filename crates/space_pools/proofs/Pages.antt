@@ -1,20 +1,23 @@
 -- What the fields of a page tell of its slots.
-use Rattle.std.proofs.Common.{◌≡◌, ◌≢◌, ⊎_elim, ℕ, zero, suc, ◌+◌, ◌<◌, ◌≤◌, Bool, true, false, cond, List, [], length, map, replicate, get_or, set, refl, sym, ap, ◌∙◌, subst, arith, true≢false, Option, None, Some}
-use Rattle.std.specs.Prelude.{◌*◌, ◌-◌, ◌++◌, take, drop, is_none, is_some}
+use Rattle.std.proofs.Common.{◌≡◌, ◌≢◌, ⊎_elim, ℕ, zero, suc, ◌<◌, ◌≤◌, Bool, true, false, cond, List, [], length, map, replicate, get_or, set, refl, sym, ap, ◌∙◌, subst, arith, true≢false, Option, None, Some}
+use Rattle.std.specs.Prelude.{is_none, is_some}
 use Rattle.std.specs.Simd.Lanes.{put_chunk}
-use Rattle.std.proofs.Math.Nat.{mul-le-mul_left}
 use Rattle.std.specs.List.{range_with_len}
 use Rattle.std.proofs.lemmas.Bool.{cases_eq, cases_lt, cases_Bool, cond-true, cond-false}
 use Rattle.std.proofs.lemmas.List.{get_or-set_same, get_or-set_other, length-set, length-replicate, get_or-replicate, get_or_past}
 use Rattle.std.proofs.lemmas.List.FromFn.{length-map-range_with_len, get_or-map-range_with_len, fill_by_all}
 use Rattle.space_model.specs.Layout.{page_slots, slot_bytes}
 use Rattle.space_planes.specs.Planes.{bit}
-use Rattle.space_pages.specs.Slots.{words_of, slot_words, with_slot}
-use Rattle.space_pages.proofs.SlotLaws.{length-slot_words}
-use Rattle.space_pools.proofs.Spreads.{over, part_below, part_within, below_written, past_written, length-written}
+use Rattle.space_pages.specs.Slots.{words_of, slot_words}
+use Rattle.space_pages.proofs.SlotLaws.{length-slot_words, slot_words-with_slot_same, slot_words-with_slot_other}
+use Rattle.std.proofs.lemmas.Simd.{length-put_chunk}
+use Rattle.space_pools.proofs.Written.{over}
+use Rattle.space_pools.specs.PageLending.{written_within}
 use Rattle.space_pools.specs.declared.pool_page.PoolPage.TheInside.{Inside}
-use Rattle.space_pools.specs.PageSlots.{PageSlots, HoldsSlots, HasEachFree, freed_found, freed_in, width_of, spread, written_in, free_page, count_of, free_in, taken_in, found_in, with_found_in}
-use Rattle.space_pools.specs.Inside.{IsPoolPage, slot_on, found_from, page_from}
+use Rattle.space_pools.specs.PageSlots.{PageSlots, HoldsSlots, HasEachFree, freed_found, freed_in, width_of, written_in, free_page, count_of, free_in, taken_in, found_in, with_found_in}
+use Rattle.space_planes.proofs.Bits.{within_from_bit}
+use Rattle.space_pools.specs.Links.{slot_on, IsLinked, AreLinked}
+use Rattle.space_pools.specs.Inside.{IsPoolPage, found_from, page_from}
 
 pub length-slots : (p : Inside) → length (page_from p).slots ≡ length p.free
 length-slots p = length-map-range_with_len (found_from p) 0 (length p.free)
@@ -92,19 +95,24 @@ all_free q pool its swept free =
     let e : xs ≡ map (found_from q) (range_with_len 0 (length q.free)) = fill_by_all (found_from q) xs (length q.free) None all each in
     λ i. record { pool = its i; slots = sym e i; unswept = swept i }
 
--- the slots of a plane become free
-pub freed : (p : Inside) (free : List Bool) (low : ℕ) → length free ≡ length p.free → HasEachFree (page_from p) free → page_from (record p { free = free; lowest = low; unswept = false }) ≡ freed_in (page_from p) free
+-- the slots of a plane become free, and the words of the others stay
+pub freed : (p : Inside) (words : List ℕ) (free : List Bool) (low : ℕ) → length free ≡ length p.free → HasEachFree (page_from p) free → ((k : ℕ) → k < length free → bit free k ≡ false → slot_on p.pool words k ≡ slot_on p.pool p.words k)
+    → page_from (record p { words = words; free = free; lowest = low; unswept = false }) ≡ freed_in (page_from p) free
 unfolding freed_in
-freed p free low long each =
-    let q : Inside = record p { free = free; lowest = low; unswept = false } in
+freed p words free low long each same =
+    let q : Inside = record p { words = words; free = free; lowest = low; unswept = false } in
     let xs : List (Option (List ℕ)) = (page_from q).slots in
     let n : ℕ = length (page_from p).slots in
     let all : length xs ≡ n = length-slots q ∙ long ∙ sym (length-slots p) in
     let one : (k : ℕ) → k < n → get_or xs k None ≡ freed_found (page_from p) free k = λ k h.
     let l = length-slots p in
     slot_is q k None (omega arith) ∙ ⊎_elim
-    (λ set. cond-true (bit free k) None (Some (slot_on p.pool p.words k)) set ∙ sym (cond-true (bit free k) None (found_in (page_from p) k) set))
-    (λ clear. cond-false (bit free k) None (Some (slot_on p.pool p.words k)) clear ∙ sym (found_is p k (omega arith) (still p free k each clear)) ∙ sym (cond-false (bit free k) None (found_in (page_from p) k) clear))
+    (λ set. cond-true (bit free k) None (Some (slot_on p.pool words k)) set ∙ sym (cond-true (bit free k) None (found_in (page_from p) k) set))
+    (λ clear.
+    cond-false (bit free k) None (Some (slot_on p.pool words k)) clear
+    ∙ ap Some (same k (omega arith) clear)
+    ∙ sym (found_is p k (omega arith) (still p free k each clear))
+    ∙ sym (cond-false (bit free k) None (found_in (page_from p) k) clear))
     (cases_Bool (bit free k)) in
     let e : xs ≡ map (freed_found (page_from p) free) (range_with_len 0 n) = fill_by_all (freed_found (page_from p) free) xs n None all one in
     λ i. record { pool = p.pool; slots = e i; unswept = false }
@@ -150,51 +158,48 @@ slot_within p pool slot h its taken =
     let e : count_of p.pool ≡ page_slots pool = ap count_of its in
     omega arith
 
-module _ (p : Inside) (pool slot : ℕ) (ws : List ℕ) (its : p.pool ≡ Some pool) (within : slot < length p.free) where
+-- the page after a slot of it was lent
+module _ (p : Inside) (pool slot : ℕ) (ws : List ℕ) (h : IsPoolPage p) (its : p.pool ≡ Some pool) (taken : taken_in (page_from p) slot ≡ true) where
+  abbrev old : List ℕ
+  old = slot_words p.words pool slot
+
   abbrev after : Inside
-  after = record p { words = with_slot p.words pool slot ws }
+  after = record p { words = written_within p.words pool slot ws }
 
-  abbrev xs : List (Option (List ℕ))
-  xs = (page_from p).slots
+  known : pool < 5
+  known = h.known pool its
 
-  abbrev n : ℕ
-  n = words_of pool
+  count : length p.free ≡ page_slots pool
+  count = h.long ∙ ap count_of its
 
-  known_found : (k : ℕ) → found_from p k ≡ cond (bit p.free k) None (Some (slot_words p.words pool k))
-  known_found k = ap (λ o. cond (bit p.free k) None (Some (slot_on o p.words k))) its
+  within : slot < page_slots pool
+  within = slot_within p pool slot h its taken
 
-  after_found : (k : ℕ) → found_from after k ≡ cond (bit p.free k) None (Some (slot_words (with_slot p.words pool slot ws) pool k))
-  after_found k = ap (λ o. cond (bit p.free k) None (Some (slot_on o (with_slot p.words pool slot ws) k))) its
+  wide : length (put_chunk 0 old ws) ≡ words_of pool
+  wide = length-put_chunk 0 old ws ∙ length-slot_words p.words pool slot h.whole known within
 
-  over_cond : (b : Bool) (vs old : List ℕ) → over vs (cond b None (Some old)) ≡ cond b None (Some (put_chunk 0 old vs))
-  over_cond true vs old = refl
-  over_cond false vs old = refl
+  found_after : (k : ℕ) (words : List ℕ) → slot_words (written_within p.words pool slot ws) pool k ≡ words → found_from after k ≡ cond (bit p.free k) None (Some words)
+  found_after k words e = ap (λ o. cond (bit p.free k) None (Some (slot_on o (written_within p.words pool slot ws) k))) its ∙ ap (λ found. cond (bit p.free k) None (Some found)) e
 
-  each : (k : ℕ) → k < length p.free → get_or (take slot xs ++ spread n ws (drop slot xs)) k None ≡ found_from after k
-  each k h = ⊎_elim
-      (λ below.
-      let fits = mul-le-mul_left {m = k + 1} {n = slot} n (omega arith) in
-      below_written n slot ws xs k (let l = length-slots p in omega arith) below
-      ∙ slot_is p k None h
-      ∙ known_found k
-      ∙ ap (λ found. cond (bit p.free k) None (Some found)) (sym (part_below (n * k) n (n * slot) p.words ws (omega arith)))
-      ∙ sym (after_found k))
-      (λ above.
-      let at : k ≡ slot + (k - slot) = omega arith in
-      let place : n * k ≡ n * slot + n * (k - slot) = ap (λ i. n * i) at ∙ omega arith in
-      past_written n slot ws xs k (k - slot) (let l = length-slots p in omega arith) at
-      ∙ ap (over (drop (n * (k - slot)) ws)) (slot_is p k None h ∙ known_found k)
-      ∙ over_cond (bit p.free k) (drop (n * (k - slot)) ws) (slot_words p.words pool k)
-      ∙ ap (λ found. cond (bit p.free k) None (Some found)) (sym (part_within (n * k) n (n * slot) (n * (k - slot)) p.words ws place))
-      ∙ sym (after_found k))
-      (cases_lt k slot)
+  pub same : slot_words (written_within p.words pool slot ws) pool slot ≡ put_chunk 0 old ws
+  same = slot_words-with_slot_same p.words pool slot (put_chunk 0 old ws) h.whole known within wide
 
-  -- the page after a slot of it was lent
+  pub other : (k : ℕ) → k < length p.free → k ≢ slot → slot_words (written_within p.words pool slot ws) pool k ≡ slot_words p.words pool k
+  other k inside differ = slot_words-with_slot_other p.words pool slot (put_chunk 0 old ws) k h.whole known (let n = count in omega arith) wide differ
+
   pub lent : page_from after ≡ written_in (page_from p) slot ws
   unfolding written_in
   lent =
-      let ys : List (Option (List ℕ)) = take slot xs ++ spread (width_of p.pool) ws (drop slot xs) in
-      let width : width_of p.pool ≡ n = ap width_of its in
-      let all : length ys ≡ length p.free = length-written (width_of p.pool) slot ws xs ∙ length-slots p in
-      let e : ys ≡ map (found_from after) (range_with_len 0 (length p.free)) = fill_by_all (found_from after) ys (length p.free) None all (λ k h. ap (λ m. get_or (take slot xs ++ spread m ws (drop slot xs)) k None) width ∙ each k h) in
-      λ i. record { pool = p.pool; slots = sym e i; unswept = p.unswept }
+      let t = taken_is p slot taken in
+      one_slot p after slot (over ws (found_in (page_from p) slot)) refl refl refl t.0
+      (found_after slot (put_chunk 0 old ws) same ∙ cond-false (bit p.free slot) None _ t.1 ∙ sym (ap (over ws) (found_on p pool slot its taken)))
+      (λ k inside differ. found_after k (slot_words p.words pool k) (other k inside differ) ∙ sym (ap (λ o. cond (bit p.free k) None (Some (slot_on o p.words k))) its))
+
+  pub linked_after_loan : AreLinked p.pool (written_within p.words pool slot ws) p.free
+  linked_after_loan k b =
+      let t = taken_is p slot taken in
+      let e : slot_on p.pool (written_within p.words pool slot ws) k ≡ slot_on p.pool p.words k =
+      ap (λ o. slot_on o (written_within p.words pool slot ws) k) its
+      ∙ other k (within_from_bit p.free k b) (λ same. true≢false (sym b ∙ ap (bit p.free) same ∙ t.1))
+      ∙ sym (ap (λ o. slot_on o p.words k) its) in
+      subst (IsLinked p.free k) (sym e) (h.linked k b)

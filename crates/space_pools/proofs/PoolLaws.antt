@@ -1,16 +1,17 @@
 -- The laws of the pools' view, for the callers: what is found in each slot after a birth, a write and a new page.
-use Rattle.std.proofs.Common.{◌≡◌, ◌≢◌, ◌⊎◌, inl, inr, ⊎_elim, ℕ, suc, ◌+◌, ◌<◌, ◌≤◌, true, false, cond, List, [], ◌∷◌, ◌++◌, length, take, drop, set, replicate, refl, sym, ap, ◌∙◌, arith, Option, None, Some, nat_eq}
-use Rattle.std.specs.Prelude.{is_none, is_some}
+use Rattle.std.proofs.Common.{◌≡◌, ◌≢◌, ◌⊎◌, inl, inr, ⊎_elim, ℕ, ◌+◌, ◌<◌, ◌≤◌, true, false, cond, List, [], length, replicate, refl, sym, ap, ◌∙◌, arith, Option, None, Some, nat_eq}
+use Rattle.std.specs.Prelude.{is_none, is_some, option_map}
 use Rattle.std.proofs.lemmas.Bool.{cases_eq, cases_lt}
 use Rattle.std.proofs.lemmas.Bool.Decides.{nat_tests}
 use Rattle.std.proofs.lemmas.Grind.{common_steps}
-use Rattle.std.proofs.lemmas.List.{get_or-set_same, get_or-set_other, length-set, length-replicate, get_or-replicate, get_or_past, get_or_default, set_past, set_split, drop_more}
+use Rattle.std.proofs.lemmas.List.{get_or-set_same, get_or-set_other, length-set, length-replicate, get_or-replicate, get_or_past, get_or_default, set_past}
 use Rattle.space_model.specs.Layout.{page_slots}
-use Rattle.space_pools.specs.PageSlots.{PageSlots, spare_page, free_page, free_in, found_in, with_found_in, width_of, count_of, written_in, spread}
+use Rattle.space_pools.specs.PageSlots.{PageSlots, spare_page, free_page, free_in, found_in, with_found_in, width_of, count_of, written_in}
 use Rattle.space_pools.specs.PoolsView.{PoolsView, page_at, pool_at, unswept_at, free_at, taken_at, found_at, with_page, with_slot_at, written_at}
 use Rattle.space_pools.specs.Spare.{with_free_page}
 use Rattle.space_pools.specs.Sound.{IsSoundPools}
-use Rattle.space_pools.proofs.Spreads.{spread_one}
+use Rattle.std.proofs.lemmas.Simd.{put_chunk_whole}
+use Rattle.std.specs.Simd.Lanes.{put_chunk}
 use Rattle.space_pools.proofs.Places.{taken_within, page_within}
 
 pub page_at-with_page_same : (v : PoolsView) (page : ℕ) (p : PageSlots) → page < length v.pages → page_at (with_page v page p) page ≡ p
@@ -119,16 +120,8 @@ not_free_from_taken v page slot taken =
 pub written_whole : (v : PoolsView) (page slot : ℕ) (old words : List ℕ) → found_at v page slot ≡ Some old → length old ≡ width_of (pool_at v page) → length words ≡ length old → written_at v page slot words ≡ with_slot_at v page slot (Some words)
 unfolding written_in
 written_whole v page slot old words e was long =
-    let xs : List (Option (List ℕ)) = (page_at v page).slots in
-    let here : slot < length xs = taken_within (page_at v page) slot (ap is_some e) in
-    let rest : drop slot xs ≡ Some old ∷ drop (slot + 1) xs = drop_more xs slot None here ∙ ap (λ x. x ∷ drop (slot + 1) xs) e in
-    let next : slot + 1 ≡ suc slot = omega arith in
-    let all : take slot xs ++ spread (width_of (pool_at v page)) words (drop slot xs) ≡ set xs slot (Some words) =
-    ap (λ ys. take slot xs ++ spread (width_of (pool_at v page)) words ys) rest
-    ∙ ap (λ ys. take slot xs ++ ys) (spread_one (width_of (pool_at v page)) words old (drop (slot + 1) xs) (long ∙ was) was)
-    ∙ ap (λ n. take slot xs ++ (Some words ∷ drop n xs)) next
-    ∙ sym (set_split xs slot (Some words) here) in
-    ap (λ slots. with_page v page (record { pool = pool_at v page; slots = slots; unswept = unswept_at v page })) all
+    let all : option_map (λ old. put_chunk 0 old words) (found_at v page slot) ≡ Some words = ap (option_map (λ old. put_chunk 0 old words)) e ∙ ap Some (put_chunk_whole old words (sym long)) in
+    ap (with_slot_at v page slot) all
 
 -- the pages after one of them, or the next one, became free
 pub page_at-with_free_page : (v : PoolsView) (page pool k : ℕ) → page ≤ length v.pages → page_at (with_free_page v page pool) k ≡ cond (nat_eq k page) (free_page pool) (page_at v k)

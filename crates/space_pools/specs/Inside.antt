@@ -1,15 +1,10 @@
 -- What the fields of a page stand for, and what holds of them.
-use Rattle.std.specs.Prelude.{◌≡◌, ℕ, ◌<◌, ◌≤◌, true, false, List, [], length, map, Option, None, Some, if◌then◌else◌}
+use Rattle.std.specs.Prelude.{◌≡◌, ℕ, ◌<◌, ◌≤◌, true, false, List, length, map, Option, None, Some, if◌then◌else◌}
 use Rattle.std.specs.List.{range_with_len}
 use Rattle.space_planes.specs.Planes.{bit}
-use Rattle.space_pages.specs.Slots.{slot_words}
 use Rattle.space_pools.specs.declared.pool_page.PoolPage.TheInside.{Inside}
+use Rattle.space_pools.specs.Links.{slot_on, AreLinked}
 use Rattle.space_pools.specs.PageSlots.{PageSlots, count_of}
-
--- the words of a slot, on a page of this pool, if it has one
-abbrev pub slot_on : Option ℕ → List ℕ → ℕ → List ℕ
-slot_on None words slot = []
-slot_on (Some pool) words slot = slot_words words pool slot
 
 -- what is found in a slot
 abbrev pub found_from : Inside → ℕ → Option (List ℕ)
@@ -26,3 +21,5 @@ pub record IsPoolPage (p : Inside) : Type 0 where
   pub within : p.lowest ≤ length p.free
   pub clear_below : (slot : ℕ) → slot < p.lowest → bit p.free slot ≡ false
   pub set_at : p.lowest < length p.free → bit p.free p.lowest ≡ true
+  -- word 0 of each free slot is 0, and word 1 links it to the next one
+  pub linked : AreLinked p.pool p.words p.free

@@ -1,5 +1,6 @@
 pub mod PageSlots
 pub mod PageLending
+pub mod Links
 pub mod Inside
 pub mod PoolsView
 pub mod Free

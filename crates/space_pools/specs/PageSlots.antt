@@ -1,5 +1,5 @@
 -- What a contract sees of one page: its pool, its slots, and whether it waits for a sweep.
-use Rattle.std.specs.Prelude.{◌≡◌, ℕ, ◌<◌, Bool, true, false, List, [], ◌∷◌, ◌++◌, length, map, take, drop, replicate, is_none, is_some, Option, None, Some, option_map, slice_index_or, slice_set, if◌then◌else◌}
+use Rattle.std.specs.Prelude.{◌≡◌, ℕ, ◌<◌, Bool, true, false, List, [], length, map, replicate, is_none, is_some, Option, None, Some, option_map, slice_index_or, slice_set, if◌then◌else◌}
 use Rattle.std.specs.List.{range_with_len}
 use Rattle.std.specs.Simd.Lanes.{put_chunk}
 use Rattle.space_model.specs.Layout.{page_slots}
@@ -66,14 +66,9 @@ pub record TakesSlot (p q : PageSlots) (slot : ℕ) : Type 0 where
   pub long : length words ≡ width_of p.pool
   pub becomes : q ≡ with_found_in p slot (Some words)
 
--- slots of n words each after words were written over them, from the first one on; free ones stay free
-abbrev pub spread : ℕ → List ℕ → List (Option (List ℕ)) → List (Option (List ℕ))
-spread n words [] = []
-spread n words (found ∷ rest) = option_map (λ old. put_chunk 0 old words) found ∷ spread n (drop n words) rest
-
 -- the page after words were written from the start of a slot on: where they are as many as the slot has, they are its words, and all else stays
 unfoldable pub written_in : PageSlots → ℕ → List ℕ → PageSlots
-written_in p slot words = record p { slots = take slot p.slots ++ spread (width_of p.pool) words (drop slot p.slots) }
+written_in p slot words = with_found_in p slot (option_map (λ old. put_chunk 0 old words) (found_in p slot))
 
 -- the page after it came to wait for a sweep
 abbrev pub held_in : PageSlots → PageSlots

@@ -1,10 +1,12 @@
 // One page of the pools: its words, its pool, and which of its slots are free.
-ghost use Rattle.std.specs.Prelude.{◌≡◌, ℕ, ◌<◌, ◌≤◌, length, Some, true, false, is_some, IfOk, MatchOption};
+ghost use Rattle.std.specs.Prelude.{◌≡◌, ℕ, ◌+◌, ◌<◌, ◌≤◌, length, Some, true, false, is_some, IfOk, MatchOption};
 ghost use Rattle.std.specs.Borrow.{sem};
 ghost use Rattle.space_model.specs.Layout.{page_slots as slots_of_page};
 ghost use Rattle.space_planes.specs.Planes.{bit};
 ghost use Rattle.space_pools.specs.PageSlots.{free_page, spare_page, free_in, taken_in, found_in, width_of, held_in, freed_in, HoldsSlots, HasEachFree, IsPassedOver, IsFirstFree, TakesSlot};
-ghost use Rattle.space_pools.specs.PageLending.{LendsOnPage};
+ghost use Rattle.space_pages.specs.Slots.{slot_words, words_of};
+ghost use Rattle.space_pools.specs.Links.{AreLinked, with_link};
+ghost use Rattle.space_pools.specs.PageLending.{LendsWithin, LendsOnPage};
 
 use space_model::{POOLS, page_slots};
 use space_pages::SlotPage;
@@ -83,6 +85,54 @@ fn first_free(free: &Plane) -> u32
     }
 }
 
+// The words of a slot, to be written. A slice keeps its length, so all words outside of the slot stay.
+fn slot_within(words: &mut SlotPage, pool: u8, s: u32) -> &mut [u64]
+    requires pool { pool < POOLS }
+    requires slot { s < slots_of_page pool }
+    ensures* writes_back { sem 𝓛 (LendsWithin words.entry pool s result) }
+    ensures words { result.now ≡ slot_words words.old pool s }
+    ensures len { length result.now ≡ words_of pool }
+{
+    words.slot_mut(pool, s)
+}
+
+// The link to the next free slot, which is 0 where no slot of the page follows.
+fn link_to(next: u32, slots: u32) -> u64
+    ensures some { next < slots → result ≡ 1 + next }
+    ensures none { slots ≤ next → result ≡ 0 }
+{
+    if next < slots { next as u64 + 1 } else { 0 }
+}
+
+// Writes the first two words of a free slot: 0, and its link.
+fn put_link(words: &mut SlotPage, pool: u8, s: u32, link: u64)
+    requires pool { pool < POOLS }
+    requires slot { s < slots_of_page pool }
+    ensures { words.new ≡ with_link words.old pool s link }
+{
+    let slot = words.slot_mut(pool, s);
+    slot[0] = 0;
+    slot[1] = link;
+}
+
+// Writes the links of the slots of the plane, each slot once, from the first one on.
+fn put_links(words: &mut SlotPage, pool: u8, free: &Plane)
+    requires pool { pool < POOLS }
+    requires slots { length free.now ≡ slots_of_page pool }
+    requires whole { length words.old ≡ 8192 }
+    ensures whole { length words.new ≡ 8192 }
+    ensures linked { AreLinked (Some pool) words.new free.now }
+    ensures others { (slot : ℕ) → slot < length free.now → bit free.now slot ≡ false → slot_words words.new pool slot ≡ slot_words words.old pool slot }
+{
+    let slots = free.len();
+    let mut s = first_free(free);
+    'slots: while s < slots {
+        let next = next_free(free, s);
+        put_link(words, pool, s, link_to(next, slots));
+        s = next;
+    }
+}
+
 impl PoolPage {
     // A page of the pool whose slots are all free.
     pub fn new(alloc: Global, pool: u8) -> Result<PoolPage, NoMemory>
@@ -91,8 +141,10 @@ impl PoolPage {
     {
         let mut free = Plane::new(alloc, slot_count(pool))?;
         free.fill(true);
+        let mut words = SlotPage::new(alloc)?;
+        put_links(&mut words, pool, &free);
         Ok(PoolPage {
-            words: SlotPage::new(alloc)?,
+            words,
             pool: Some(pool),
             free,
             lowest: 0,
@@ -107,6 +159,7 @@ impl PoolPage {
     {
         self.free.reset(slot_count(pool));
         self.free.fill(true);
+        put_links(&mut self.words, pool, &self.free);
         self.pool = Some(pool);
         self.lowest = 0;
         self.unswept = false;
@@ -121,10 +174,12 @@ impl PoolPage {
 
     // Makes the slots of the plane free. It waits for no sweep then.
     pub fn set_free(&mut self, free: &Plane)
+        requires pool { is_some self.old.pool ≡ true }
         requires len { length free.now ≡ length self.old.slots }
         requires each { HasEachFree self.old free.now }
         ensures { self.new ≡ freed_in self.old free.now }
     {
+        put_links(&mut self.words, known(self.pool), free);
         self.free.copy_from(free);
         self.lowest = first_free(free);
         self.unswept = false;
@@ -215,6 +270,6 @@ impl PoolPage {
         ensures len { length result.now ≡ width_of self.old.pool }
     {
         let pool = known(self.pool);
-        self.words.slot_mut(pool, s)
+        slot_within(&mut self.words, pool, s)
     }
 }

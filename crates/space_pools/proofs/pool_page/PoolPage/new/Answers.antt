@@ -4,8 +4,8 @@ use Rattle.space_pools.specs.declared.pool_page.PoolPage.TheInside.{Inside}
 use Rattle.space_pools.proofs.Pages.{all_free}
 use Rattle.space_pools.proofs.pool_page.PoolPage.new.Goals as goal
 
-abbrev after : goal.In_ok-new → Inside
-after c = record { words = c.in_ok-new.field-0; pool = Some c.args.pool; free = c.fill.new.self; lowest = 0; unswept = false }
+abbrev after : goal.After-put_links → Inside
+after c = record { words = c.put_links.new.words; pool = Some c.args.pool; free = c.fill.new.self; lowest = 0; unswept = false }
 
 pub returns : goal.returns
 returns c = all_free (after c) c.args.pool refl refl (c.fill.ensures ∙ ap (λ n. replicate n true) (ap length c.in_ok-free.ensures ∙ length-replicate c.slot_count.result false ∙ c.slot_count.ensures.count))

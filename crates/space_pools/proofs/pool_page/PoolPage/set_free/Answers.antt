@@ -1,9 +1,14 @@
-use Rattle.std.proofs.Common.{◌≡◌, ◌<◌, ◌≤◌, false, length, sym, ap, ◌∙◌, subst}
-use Rattle.space_pools.specs.PageSlots.{PageSlots, HasEachFree, freed_in}
+use Rattle.std.proofs.Common.{◌≡◌, ℕ, ◌<◌, ◌≤◌, false, length, sym, ap, ◌∙◌, subst}
+use Rattle.space_pools.specs.PageSlots.{PageSlots, HasEachFree, count_of, freed_in}
 use Rattle.space_planes.specs.Planes.{bit}
+use Rattle.space_pools.specs.Links.{slot_on, AreLinked}
 use Rattle.space_pools.specs.Inside.{page_from}
 use Rattle.space_pools.proofs.Pages.{length-slots, freed}
 use Rattle.space_pools.proofs.pool_page.PoolPage.set_free.Goals as goal
+
+pub put_links-requires-clause-slots : goal.put_links-requires-clause-slots
+put_links-requires-clause-slots c =
+    c.requires.len ∙ sym (ap (λ (p : PageSlots). length p.slots) c.self.view_is) ∙ length-slots c.self.inside ∙ c.self.invariant.long ∙ ap count_of c.known.ensures
 
 pub copy_from-requires : goal.copy_from-requires
 copy_from-requires c = c.requires.len ∙ sym (ap (λ (p : PageSlots). length p.slots) c.self.view_is) ∙ length-slots c.self.inside
@@ -11,22 +16,29 @@ copy_from-requires c = c.requires.len ∙ sym (ap (λ (p : PageSlots). length p.
 pub invariant_of-self : goal.invariant_of-self
 invariant_of-self c =
     let free = c.args.free.now in
+    let words = c.put_links.new.words in
     let long : length free ≡ length c.self.inside.free = c.requires.len ∙ sym (ap (λ (p : PageSlots). length p.slots) c.self.view_is) ∙ length-slots c.self.inside in
     let is = c.copy_from.ensures in
     let first = c.first_free-self-inside.ensures in
     record {
-      whole = c.self.invariant.whole;
+      whole = c.put_links.ensures.whole;
       known = c.self.invariant.known;
       long = ap length is ∙ long ∙ c.self.invariant.long;
       within = subst (λ plane. c.first_free-self-inside.result ≤ length plane) (sym is) first.within;
       clear_below = λ k h. ap (λ plane. bit plane k) is ∙ first.clear k h;
       set_at = λ h. ap (λ plane. bit plane c.first_free-self-inside.result) is ∙ first.set (subst (λ plane. c.first_free-self-inside.result < length plane) is h);
+      linked = subst (AreLinked c.self.inside.pool words) (sym is) (subst (λ pool. AreLinked pool words free) (sym c.known.ensures) c.put_links.ensures.linked);
     }
 
 pub returns : goal.returns
 returns c =
-    let long : length c.args.free.now ≡ length c.self.inside.free = c.requires.len ∙ sym (ap (λ (p : PageSlots). length p.slots) c.self.view_is) ∙ length-slots c.self.inside in
-    let each : HasEachFree (page_from c.self.inside) c.args.free.now = subst (λ p. HasEachFree p c.args.free.now) (sym c.self.view_is) c.requires.each in
-    ap (λ plane. page_from (record c.self.inside { free = plane; lowest = c.first_free-self-inside.result; unswept = false })) c.copy_from.ensures
-    ∙ freed c.self.inside c.args.free.now c.first_free-self-inside.result long each
-    ∙ ap (λ p. freed_in p c.args.free.now) c.self.view_is
+    let free = c.args.free.now in
+    let p = c.self.inside in
+    let words = c.put_links.new.words in
+    let long : length free ≡ length p.free = c.requires.len ∙ sym (ap (λ (p : PageSlots). length p.slots) c.self.view_is) ∙ length-slots p in
+    let each : HasEachFree (page_from p) free = subst (λ p. HasEachFree p free) (sym c.self.view_is) c.requires.each in
+    let same : (k : ℕ) → k < length free → bit free k ≡ false → slot_on p.pool words k ≡ slot_on p.pool p.words k = λ k h clear.
+    ap (λ pool. slot_on pool words k) c.known.ensures ∙ c.put_links.ensures.others k h clear ∙ sym (ap (λ pool. slot_on pool p.words k) c.known.ensures) in
+    ap (λ plane. page_from (record p { words = words; free = plane; lowest = c.first_free-self-inside.result; unswept = false })) c.copy_from.ensures
+    ∙ freed p words free c.first_free-self-inside.result long each same
+    ∙ ap (λ p. freed_in p free) c.self.view_is

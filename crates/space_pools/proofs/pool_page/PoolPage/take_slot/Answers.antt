@@ -1,12 +1,13 @@
-use Rattle.std.proofs.Common.{◌≡◌, ℕ, ◌<◌, ap, sym, ◌∙◌, arith, refl, true, false, length, set, ⊎_elim, cond, None, Some}
+use Rattle.std.proofs.Common.{◌≡◌, ℕ, ◌<◌, ap, subst, sym, ◌∙◌, arith, refl, true, false, length, set, ⊎_elim, cond, None, Some}
 use Rattle.std.proofs.lemmas.Bool.{cases_eq, cases_lt, cond-false}
 use Rattle.std.proofs.lemmas.List.{length-set}
 use Rattle.space_planes.specs.Planes.{bit}
 use Rattle.space_planes.proofs.Bits.{within_from_bit, bit-set_same, bit-set_other}
 use Rattle.space_pools.specs.declared.pool_page.PoolPage.TheInside.{Inside}
 use Rattle.space_pools.specs.PageSlots.{free_in}
-use Rattle.space_pools.specs.Inside.{slot_on}
+use Rattle.space_pools.specs.Links.{slot_on, AreLinked}
 use Rattle.space_pools.proofs.Pages.{free_is, one_slot, long_slot}
+use Rattle.space_pools.proofs.Linked.{linked_after_birth}
 use Rattle.space_pools.proofs.pool_page.PoolPage.take_slot.Goals as goal
 
 pub next_free-self-inside-requires : goal.next_free-self-inside-requires
@@ -39,6 +40,8 @@ invariant_of-self c =
           (λ above. next.clear k (omega arith) h)
           (cases_lt k s))
           (cases_eq k s);
+      linked = subst (λ plane. AreLinked c.self.inside.pool c.self.inside.words plane) (sym c.clear.ensures)
+          (linked_after_birth free s (sym (free_is c.self.inside s) ∙ ap (λ q. free_in q s) c.self.view_is ∙ c.requires.is_free) (λ k h. sym (free_is c.self.inside k) ∙ ap (λ q. free_in q k) c.self.view_is ∙ c.requires.below k h) c.self.inside.pool c.self.inside.words c.self.invariant.linked);
       set_at = λ h. is c.next_free-self-inside.result ∙ bit-set_other free s c.next_free-self-inside.result false (λ e. omega arith) ∙ next.set (omega arith);
     }
 

@@ -1,4 +1,4 @@
-use Rattle.std.proofs.Common.{◌≡◌, ◌≤◌, length, sym, ◌∙◌, subst, arith, true}
+use Rattle.std.proofs.Common.{◌≡◌, sym, ◌∙◌, subst, true}
 use Rattle.std.specs.Vec.{with_item}
 use Rattle.std.proofs.lemmas.List.{get_or_read}
 use Rattle.space_pools.specs.PageSlots.{spare_page, written_in}
@@ -14,7 +14,6 @@ invariant_of-self-lent c =
     let taken : taken_at v c.args.page c.args.s ≡ true = subst (λ v. taken_at v c.args.page c.args.s ≡ true) (sym c.self.view_is) c.requires in
     let within = taken_within (page_at v c.args.page) c.args.s taken in
     let here = page_within v c.args.page c.args.s within in
-    let at : c.args.s ≤ length (page_at v c.args.page).slots = omega arith in
     let read : c.index_mut-page.result.now ≡ page_at v c.args.page = get_or_read v.pages c.args.page c.index_mut-page.result.now here c.index_mut-page.ensures.value spare_page in
     let known = c.self.invariant in
     λ w. subst (λ p. ArePools (record {
@@ -24,8 +23,8 @@ invariant_of-self-lent c =
       cursors = c.self.inside.cursors;
       spare = c.self.inside.spare;
     })) (sym read) (record {
-      sound = sound_written_at v c.args.page c.args.s w here at known.sound;
+      sound = sound_written_at v c.args.page c.args.s w here known.sound;
       room = known.room;
-      spares = known.spares ∙ sym (spares_written_at v c.args.page c.args.s w here at);
-      full = full_written_at v c.args.page c.args.s w here at c.self.inside.cursors known.full;
+      spares = known.spares ∙ sym (spares_written_at v c.args.page c.args.s w here);
+      full = full_written_at v c.args.page c.args.s w here c.self.inside.cursors known.full;
     })

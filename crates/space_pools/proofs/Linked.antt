@@ -1,0 +1,123 @@
+-- Free slots are linked after the walk over them, after a birth and after a loan.
+use Rattle.std.proofs.Common.{◌≡◌, ◌≢◌, inl, inr, ⊎_elim, ℕ, zero, suc, ◌+◌, ◌<◌, ◌≤◌, Bool, true, false, true≢false, List, [], ◌∷◌, length, drop, set, refl, sym, ap, ◌∙◌, subst, arith, Option}
+use Rattle.std.proofs.lemmas.Bool.{cases_eq, cases_lt}
+use Rattle.std.proofs.lemmas.List.{get_or_past, length-set}
+use Rattle.space_model.specs.Layout.{page_slots, slot_bytes}
+use Rattle.space_planes.specs.Planes.{bit}
+use Rattle.space_planes.proofs.Bits.{within_from_bit, bit-set_same, bit-set_other}
+use Rattle.space_pages.specs.Slots.{words_of, slot_words}
+use Rattle.space_pages.proofs.SlotLaws.{length-slot_words, slot_words-with_slot_same, slot_words-with_slot_other}
+use Rattle.space_pools.specs.Links.{IsLink, IsLinked, AreLinked, with_link}
+
+-- each slot has room for its link
+pub two_words : (pool : ℕ) → pool < 5 → 2 ≤ words_of pool
+unfolding slot_bytes
+two_words zero known = omega arith
+two_words (suc zero) known = omega arith
+two_words (suc (suc zero)) known = omega arith
+two_words (suc (suc (suc zero))) known = omega arith
+two_words (suc (suc (suc (suc zero)))) known = omega arith
+two_words (suc (suc (suc (suc (suc pool))))) known = absurd (omega arith)
+
+begins : (xs : List ℕ) (link : ℕ) → 2 ≤ length xs → set (set xs 0 0) 1 link ≡ 0 ∷ link ∷ drop 2 xs
+begins [] link h = absurd (omega arith)
+begins (x ∷ []) link h = absurd (omega arith)
+begins (x ∷ y ∷ xs) link h = refl
+
+-- one step of the walk: the links of the slots below are written, and that of this one is
+module _ (pool : ℕ) (free : List Bool) (words : List ℕ) (s link : ℕ) (known : pool < 5) (count : length free ≡ page_slots pool) (whole : length words ≡ 8192) (at : bit free s ≡ true) where
+  abbrev old : List ℕ
+  old = slot_words words pool s
+
+  abbrev written : List ℕ
+  written = set (set old 0 0) 1 link
+
+  within : (k : ℕ) → k < length free → k < page_slots pool
+  within k inside = omega arith
+
+  inside : s < page_slots pool
+  inside = within s (within_from_bit free s at)
+
+  wide : length old ≡ words_of pool
+  wide = length-slot_words words pool s whole known inside
+
+  long : length written ≡ words_of pool
+  long = length-set (set old 0 0) 1 link ∙ length-set old 0 0 ∙ wide
+
+  other : (k : ℕ) → k < length free → k ≢ s → slot_words (with_link words pool s link) pool k ≡ slot_words words pool k
+  other k h differ = slot_words-with_slot_other words pool s written k whole known (within k h) long differ
+
+  linked_here : IsLink free s link → IsLinked free s (slot_words (with_link words pool s link) pool s)
+  linked_here is = record {
+    link = link;
+    rest = drop 2 old;
+    begins = slot_words-with_slot_same words pool s written whole known inside long ∙ begins old link (let two = two_words pool known in let w = wide in omega (arith, two, w));
+    is_link = is;
+  }
+
+  pub more_linked : (next : ℕ) → ((k : ℕ) → s < k → k < next → bit free k ≡ false) → IsLink free s link
+      → ((k : ℕ) → k < s → bit free k ≡ true → IsLinked free k (slot_words words pool k))
+      → (k : ℕ) → k < next → bit free k ≡ true → IsLinked free k (slot_words (with_link words pool s link) pool k)
+  more_linked next clear is below k h b = ⊎_elim
+      (λ same. subst (λ k. IsLinked free k (slot_words (with_link words pool s link) pool k)) (sym same) (linked_here is))
+      (λ differ. ⊎_elim
+      (λ lower. subst (IsLinked free k) (sym (other k (within_from_bit free k b) differ)) (below k lower b))
+      (λ upper. absurd (true≢false (sym b ∙ clear k (omega arith) h)))
+      (cases_lt k s))
+      (cases_eq k s)
+
+  pub others_kept : (k : ℕ) → k < length free → bit free k ≡ false → slot_words (with_link words pool s link) pool k ≡ slot_words words pool k
+  others_kept k h clear = other k h (λ same. true≢false (sym at ∙ ap (bit free) (sym same) ∙ clear))
+
+-- what the walk writes is the link
+pub link_is : (free : List Bool) (s next link : ℕ) → s < next → ((k : ℕ) → s < k → k < next → bit free k ≡ false) → (next < length free → bit free next ≡ true)
+    → (next < length free → link ≡ 1 + next) → (length free ≤ next → link ≡ 0) → IsLink free s link
+link_is free s next link past clear set some none = ⊎_elim
+    (λ within. inr (next, record { past = past; is_free = set within; least = clear }, some within))
+    (λ beyond. inl (
+      λ k h. ⊎_elim
+          (λ lower. clear k h lower)
+          (λ upper. get_or_past free k false (omega arith))
+          (cases_lt k next),
+      none beyond,
+    ))
+    (cases_lt next (length free))
+
+-- after a birth at the first free slot, which no link names
+module _ (free : List Bool) (s : ℕ) (at : bit free s ≡ true) (first : (k : ℕ) → k < s → bit free k ≡ false) where
+  same_bit : (k : ℕ) → s < k → bit (set free s false) k ≡ bit free k
+  same_bit k h = bit-set_other free s k false (λ e. omega arith)
+
+  past_first : (k : ℕ) → bit (set free s false) k ≡ true → s < k
+  past_first k b = ⊎_elim
+      (λ same. absurd (true≢false (sym b ∙ ap (bit (set free s false)) same ∙ bit-set_same free s false (within_from_bit free s at))))
+      (λ differ. ⊎_elim
+      (λ lower. absurd (true≢false (sym b ∙ bit-set_other free s k false differ ∙ first k lower)))
+      (λ upper. omega arith)
+      (cases_lt k s))
+      (cases_eq k s)
+
+  still_link : (k link : ℕ) → s < k → IsLink free k link → IsLink (set free s false) k link
+  still_link k link above (inl last) = inl (λ other h. same_bit other (omega arith) ∙ last.0 other h, last.1)
+  still_link k link above (inr named) =
+      let n = named.1 in
+      let p = n.past in
+      inr (
+        named.0,
+        record {
+          past = p;
+          is_free = same_bit named.0 (omega arith) ∙ n.is_free;
+          least = λ other h b. same_bit other (omega arith) ∙ n.least other h b;
+        },
+        named.2,
+      )
+
+  pub linked_after_birth : (pool : Option ℕ) (words : List ℕ) → AreLinked pool words free → AreLinked pool words (set free s false)
+  linked_after_birth pool words h k b =
+      let above = past_first k b in
+      let w = h k (sym (same_bit k above) ∙ b) in
+      record { link = w.link; rest = w.rest; begins = w.begins; is_link = still_link k w.link above w.is_link }
+
+-- nothing is free on a page without slots
+pub none_linked : (pool : Option ℕ) (words : List ℕ) (free : List Bool) → length free ≡ 0 → AreLinked pool words free
+none_linked pool words free none k b = let h = within_from_bit free k b in absurd (omega arith)

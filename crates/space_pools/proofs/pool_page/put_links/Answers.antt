@@ -1,0 +1,45 @@
+use Rattle.std.proofs.Common.{◌≡◌, ℕ, ◌<◌, ◌∙◌, true≢false, refl, sym, ap, subst, length, true, arith}
+use Rattle.space_planes.specs.Planes.{bit}
+use Rattle.space_planes.proofs.Bits.{within_from_bit}
+use Rattle.space_pages.specs.Slots.{slot_words}
+use Rattle.space_pages.proofs.SlotLaws.{length-with_slot}
+use Rattle.space_pools.specs.Links.{IsLink, IsLinked}
+use Rattle.space_pools.proofs.Linked.{link_is, more_linked, others_kept}
+use Rattle.space_pools.proofs.pool_page.put_links.Goals as goal
+
+pub slots-init : goal.slots-init
+slots-init c = record {
+  at = λ h. c.first_free-s.ensures.set (omega arith);
+  whole = c.requires.whole;
+  linked = λ slot h b. absurd (true≢false (sym b ∙ c.first_free-s.ensures.clear slot h));
+  others = λ slot h clear. refl;
+}
+
+pub slots-preserved : goal.slots-preserved
+slots-preserved c =
+    let free = c.args.free.now in
+    let pool = c.args.pool in
+    let words = c.slots.words in
+    let s = c.slots.s in
+    let link = c.link_to.result in
+    let next = c.next_free-next.ensures in
+    let before = c.slots.invariant in
+    let at : bit free s ≡ true = before.at (omega arith) in
+    let is : IsLink free s link = link_is free s c.next_free-next.result link next.past next.clear next.set (λ h. c.link_to.ensures.some (omega arith)) (λ h. c.link_to.ensures.none (omega arith)) in
+    let put = sym c.put_link.ensures in
+    record {
+      at = λ h. next.set (omega arith);
+      whole = ap length c.put_link.ensures ∙ length-with_slot words pool s _ ∙ before.whole;
+      linked = subst (λ after. (k : ℕ) → k < c.next_free-next.result → bit free k ≡ true → IsLinked free k (slot_words after pool k)) put
+          (more_linked pool free words s link c.requires.pool c.requires.slots before.whole at c.next_free-next.result next.clear is before.linked);
+      others = λ k h clear. ap (λ after. slot_words after pool k) c.put_link.ensures ∙ others_kept pool free words s link c.requires.pool c.requires.slots before.whole at k h clear ∙ before.others k h clear;
+    }
+
+pub returns-clause-whole : goal.returns-clause-whole
+returns-clause-whole c = c.slots.invariant.whole
+
+pub returns-clause-linked : goal.returns-clause-linked
+returns-clause-linked c slot b = c.slots.invariant.linked slot (let h = within_from_bit c.args.free.now slot b in omega arith) b
+
+pub returns-clause-others : goal.returns-clause-others
+returns-clause-others c = c.slots.invariant.others
