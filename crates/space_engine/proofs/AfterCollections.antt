@@ -1,5 +1,5 @@
 -- The heap after a whole collection has what the state has after it.
-use Rattle.std.proofs.Common.{◌≡◌, ◌&&◌, not, ℕ, ◌≤◌, true, false, true≢false, List, [], ◌∷◌, length, map, refl, sym, ap, ◌∙◌, nat_eq, Option, None, Some, ⊎_elim, inl}
+use Rattle.std.proofs.Common.{◌≡◌, ◌&&◌, not, ℕ, ◌≤◌, true, false, true≢false, List, [], ◌∷◌, length, map, refl, sym, ap, ◌∙◌, subst, nat_eq, Option, None, Some, ⊎_elim, inl}
 use Rattle.std.specs.Prelude.{unwrap_or, is_some}
 use Rattle.std.specs.List.{flat_map}
 use Rattle.std.specs.Ordering.{nat_cmp}
@@ -8,6 +8,7 @@ use Rattle.std.specs.FinMap.{FinMap, get, get-empty}
 use Rattle.std.proofs.lemmas.Bool.{cases_Bool, and_parts, and_from, or_left, eq-eqb, cond-true, cond-false, not-true}
 use Rattle.space_model.specs.declared.command.Command.TheVariants.{Gc}
 use Rattle.space_model.specs.declared.event.Kind.TheVariants.{Full}
+use Rattle.space_model.specs.declared.phase.Phase.TheVariants.{Idle}
 use Rattle.space_model.specs.declared.reply.Reply.TheVariants.{Scanned}
 use Rattle.space_model.specs.declared.value.Value.{Value}
 use Rattle.space_model.specs.declared.value.Value.TheVariants.{Nil, Small, Name}
@@ -20,12 +21,12 @@ use Rattle.space_model.specs.Pages.{pool_at as pool_of_page, is_used}
 use Rattle.space_model.specs.Places.{IsFree}
 use Rattle.space_model.specs.Roots.{Root, root_names}
 use Rattle.space_model.specs.State.{State}
-use Rattle.space_model.specs.WholeCollections.{verdict_events}
+use Rattle.space_model.specs.WholeCollections.{verdict_events, CollectsAll}
 use Rattle.space_model.proofs.MapLaws.{get-without, held_without}
 use Rattle.space_model.proofs.Members.{member_left, member_right}
 use Rattle.space_model.proofs.PageLaws.{page_of-slot_address, user, used_by}
 use Rattle.space_model.proofs.SweptLaws.{IsCollected}
-use Rattle.space_model.proofs.WholeLaws.{collected_state, freed_names, collects_from, collected_after}
+use Rattle.space_model.proofs.WholeLaws.{collected_state, freed_names, collects_from, collected_after, Sound-collects_all}
 use Rattle.space_heap.specs.Slots.{ObjectView}
 use Rattle.space_heap.specs.HeapView.{Counters, HeapView, pool_at, is_unswept}
 use Rattle.space_heap.specs.Objects.{stands, is_object, object_of, is_moved}
@@ -37,17 +38,15 @@ use Rattle.space_heap.proofs.SettledLaws.{pool_at-settled, count-settled, stays-
 use Rattle.space_heap.proofs.SlotAddresses.{slot_in-address, slot_in_parts}
 use Rattle.space_heap.proofs.SweptPages.{stands_pooled}
 use Rattle.space_roots.specs.WordRoots.{root_words}
-use Rattle.space_engine.specs.AllSwept.{AreSwept}
-use Rattle.space_engine.specs.GoneNames.{gone_names}
-use Rattle.space_engine.specs.HeapCollections.{IsHeapCollection}
+use Rattle.space_collector.specs.AllSwept.{AreSwept}
+use Rattle.space_collector.specs.GoneNames.{gone_names}
+use Rattle.space_collector.specs.HeapCollections.{IsHeapCollection}
 use Rattle.space_engine.specs.Stands.{HasObjects, HasCorpses, HasPages, Represents, Holds}
 use Rattle.space_engine.specs.Steps.{AnswersWith}
 use Rattle.space_engine.specs.Views.{View, with_heap}
 use Rattle.space_engine.specs.Words.{word_roots}
 use Rattle.space_engine.proofs.WholeVerdicts.{w, unmarked_at, kept_is, taken_at, taken_there, verdict_of, scans_of}
-
-none_some : {X : Type 0} (x : X) → ◌≡◌ {A = Option X} None (Some x) → ⊥
-none_some x e = cc
+use Rattle.space_engine.proofs.Outcomes.{none_some}
 
 -- words of values that stay
 module _ (place : FinMap nat_cmp ℕ) (taken : List ℕ) where
@@ -159,7 +158,7 @@ module _ (v : View) (s : State) (h : Holds v s) (z : HeapView) (scans : ℕ) (na
   }
 
   -- what the definitions say of the state after it
-  abbrev t : State
+  abbrev pub t : State
   t = collected_state s taken
 
   abbrev is_collected : IsCollected (mark_started s) Full taken (freed_names s taken) t
@@ -271,14 +270,33 @@ module _ (v : View) (s : State) (h : Holds v s) (z : HeapView) (scans : ℕ) (na
     stack = is_collected.stack ∙ h.represents.stack;
   }
 
+  -- the state after it comes of a whole collection
+  pub collected_all : CollectsAll s (verdict_events Full names) scans t
+  collected_all = subst (λ (ns : List ℕ). CollectsAll s (verdict_events Full ns) scans t) (sym c.names_are) (collects_from s taken h.sound (verdict_of v s h z scans names c) scans h.idle (scans_of v s h z scans names c))
+
   -- so `gc` is answered
   pub collected_answers : AnswersWith s (with_heap v z) Gc (verdict_events Full names) (Scanned scans)
-  collected_answers = rw c.names_are (record {
+  collected_answers = record {
     state = t;
     represents = collected_represents;
     idle = is_collected.phase;
-    effects = collects_from s taken h.sound (verdict_of v s h z scans names c) scans h.idle (scans_of v s h z scans names c);
-  })
+    effects = collected_all;
+  }
+
+  -- and the heap has what that state has
+  pub collected_holds : Holds (with_heap v z) t
+  collected_holds = record {
+    represents = collected_represents;
+    idle = is_collected.phase;
+    sound = Sound-collects_all s t (verdict_events Full names) scans collected_all h.sound;
+  }
+
+  pub collected_idle : t.collector.phase ≡ Idle
+  collected_idle = is_collected.phase
+
+  -- no object was made
+  pub collected_graph : t.graph ≡ s.graph
+  collected_graph = is_collected.graph
 
   -- the names that are taken are those of born objects
   pub taken_born : (n : ℕ) → is_member nat_eq taken n ≡ true → n ≤ length s.graph

@@ -36,17 +36,15 @@ use Rattle.space_engine.proofs.Pages.{pages_moved, progress_moved, unmoved_moved
 use Rattle.space_engine.proofs.RootWords.{with_root_word-word_roots, without_word-word_roots}
 use Rattle.space_engine.proofs.Reading.{root_absent, root_there}
 use Rattle.space_engine.proofs.Storing.{stored_represents}
+use Rattle.space_engine.proofs.Outcomes.{ok_same}
 
 -- nothing was made, since memory was lacking
 pub not_made : (v : View) (s : State) (root : List ℕ) (fields : ℕ) (guard : Guard) (style : Style) → fields ≤ 78 → Holds v s → Answers s v (New root fields guard style) NoMemory
-not_made v s root fields guard style few h = record { state = s; represents = h.represents; idle = h.idle; effects = (refl, (few, refl)) }
+not_made v s root fields guard style few h = record { state = s; represents = h.represents; idle = h.idle; effects = (few, refl, refl) }
 
 -- an object can't have so many fields
 pub too_large : (v : View) (s : State) (root : List ℕ) (fields : ℕ) (guard : Guard) (style : Style) → 78 < fields → Holds v s → Answers s v (New root fields guard style) (Refused TooLarge)
-too_large v s root fields guard style many h = record { state = s; represents = h.represents; idle = h.idle; effects = (refl, (many, refl, refl)) }
-
-ok_same : (a b : ℕ) → ◌≡◌ {A = Result ℕ Refusal} (Ok a) (Ok b) → a ≡ b
-ok_same a b e = cc
+too_large v s root fields guard style many h = record { state = s; represents = h.represents; idle = h.idle; effects = (many, refl, refl, refl) }
 
 none_where : (found : Option ℕ) → is_some found ≡ false → found ≡ None
 none_where None e = refl

@@ -19,24 +19,19 @@ use Rattle.space_heap.specs.NewPages.{IsLeastSpare}
 use Rattle.space_heap.proofs.NewPages.{length-with_page}
 use Rattle.space_heap.proofs.NewPageLaws.{is_free_at-with_page_other}
 use Rattle.space_heap.proofs.NewPageSlots.{pool_at-with_page, slot_free, free_slot_is, rest-with_page}
-use Rattle.space_engine.specs.Births.{GetsPage}
+use Rattle.space_collector.specs.Births.{GetsPage}
 use Rattle.space_engine.specs.Stands.{Represents, HasPages}
 use Rattle.space_engine.specs.Views.{View}
 use Rattle.space_engine.proofs.Addresses.{slot_address-rises}
 use Rattle.space_engine.proofs.Pages.{paged}
+use Rattle.space_engine.proofs.Outcomes.{none_some, some_same}
 
 length-with_pool : (pages : List (Option ℕ)) (page pool : ℕ) → page ≤ length pages → length (with_pool pages page pool) ≡ cond (nat_eq page (length pages)) (length pages + 1) (length pages)
 unfolding with_pool
 length-with_pool pages page pool h = grind (arith, nat_tests, common_steps)
 
-none_some : {X : Type 0} (x : X) → ◌≡◌ {A = Option X} None (Some x) → ⊥
-none_some x e = cc
-
 nothing_at : (map : FinMap nat_cmp ℕ) → map ≡ empty → (name address : ℕ) → get map name ≢ Some address
 nothing_at map e name address at = none_some address (sym (get-empty nat_cmp name) ∙ ap (λ m. get m name) (sym e) ∙ at)
-
-some_same : (a b : ℕ) → Some a ≡ Some b → a ≡ b
-some_same a b e = cc
 
 module _ (v : View) (s : State) (h : Represents v s) (sound : Sound s) (page pool : ℕ) (known : pool < 5) (g : GetsPage v.heap (with_page v.heap page pool) pool page) where
   abbrev w : HeapView

@@ -1,3 +1,4 @@
+mod Outcomes
 mod RootWords
 mod HeapReads
 mod Reading
@@ -10,14 +11,11 @@ mod Placing
 mod BirthPlaces
 mod Storing
 mod Openings
-mod PageSweeps
 mod WholeVerdicts
 mod AfterCollections
 mod ToldCollections
-mod AllSweeps
 mod Tidying
 mod Reserving
+mod LimitBirths
 mod Answering
 mod Stepping
-mod GoneLists
-pub mod ToldLines

@@ -9,9 +9,7 @@ use Rattle.space_heap.proofs.FreeLaws.{is_moved-empty}
 use Rattle.space_heap.proofs.EmptyHeaps.{stands-empty, is_object-empty, is_free_at-empty}
 use Rattle.space_engine.specs.Stands.{Holds}
 use Rattle.space_engine.specs.Views.{empty_view}
-
-none_some : {X : Type 0} (x : X) → ◌≡◌ {A = Option X} None (Some x) → ⊥
-none_some x e = cc
+use Rattle.space_engine.proofs.Outcomes.{none_some}
 
 pub opening_held : (limit : ℕ) → Holds (empty_view limit) (opening limit)
 opening_held limit = record {

@@ -34,9 +34,7 @@ use Rattle.space_engine.specs.Views.{View, with_heap, with_root_written}
 use Rattle.space_engine.specs.Words.{word_roots}
 use Rattle.space_engine.proofs.Pages.{paged, pages_moved}
 use Rattle.space_engine.proofs.RootWords.{with_root_word-word_roots, word_roots-insert, words-insert}
-
-some_same : (a b : ℕ) → Some a ≡ Some b → a ≡ b
-some_same a b e = cc
+use Rattle.space_engine.proofs.Outcomes.{some_same}
 
 nil_words : (place : FinMap nat_cmp ℕ) (fields : ℕ) → replicate fields 0 ≡ map (value_word place) (replicate fields Nil)
 nil_words place zero = refl

@@ -25,10 +25,11 @@ use Rattle.space_roots.specs.WordRoots.{root_words}
 use Rattle.space_major.specs.Graph.{IsLive}
 use Rattle.space_major.specs.Graph as heap
 use Rattle.space_major.specs.Scans.{fields_of}
-use Rattle.space_engine.specs.GoneNames.{name_at}
+use Rattle.space_collector.specs.GoneNames.{name_at}
 use Rattle.space_engine.specs.Stands.{Holds}
 use Rattle.space_engine.specs.Views.{View}
 use Rattle.space_engine.proofs.FieldWords.{nothing_at_zero, nothing_at_odd}
+use Rattle.space_engine.proofs.Outcomes.{some_same}
 
 -- lists of names, unfolded
 
@@ -55,9 +56,6 @@ member_unmap f (y ∷ ys) q m = ⊎_elim
     (λ e. (y, or_left (nat_eq y y) _ (eq-eqb y y refl), eqb-true q (f y) e))
     (λ r. let u = member_unmap f ys q r in (u.0, or_right (nat_eq u.0 y) _ u.1, u.2))
     (or_cases _ _ m)
-
-some_same : (a b : ℕ) → ◌≡◌ {A = Option ℕ} (Some a) (Some b) → a ≡ b
-some_same a b e = cc
 
 module _ (v : View) (s : State) (h : Holds v s) where
   abbrev IsAt : ℕ → ℕ → Type 0

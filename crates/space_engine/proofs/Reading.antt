@@ -28,15 +28,7 @@ use Rattle.space_engine.specs.Stands.{Holds}
 use Rattle.space_engine.specs.Views.{View}
 use Rattle.space_engine.specs.Words.{operand_word, word_result}
 use Rattle.space_engine.proofs.RootWords.{root_word-word_roots}
-
-none_some : {X : Type 0} (x : X) → ◌≡◌ {A = Option X} None (Some x) → ⊥
-none_some x e = cc
-
-some_same : (a b : ℕ) → ◌≡◌ {A = Option ℕ} (Some a) (Some b) → a ≡ b
-some_same a b e = cc
-
-ok_same : (a b : ℕ) → ◌≡◌ {A = Result ℕ Refusal} (Ok a) (Ok b) → a ≡ b
-ok_same a b e = cc
+use Rattle.space_engine.proofs.Outcomes.{none_some, ok_same, some_same}
 
 err_same : (why other : Refusal) → ◌≡◌ {A = Result ℕ Refusal} (Err why) (Err other) → why ≡ other
 err_same why other e = cc
@@ -122,9 +114,6 @@ no_small word none = ⊎_elim
 pub word_value-named : (place : FinMap nat_cmp ℕ) (word : ℕ) → (word ≡ 0 → ⊥) → ((number : ℕ) → IsSmallWord word number → ⊥) → word_value place word ≡ option_map Name (named_by place word)
 word_value-named place word some none = rw (ne_eqb word 0 some, no_small word none) refl
 
-some_same_value : (a b : Value) → ◌≡◌ {A = Option Value} (Some a) (Some b) → a ≡ b
-some_same_value a b e = cc
-
 first_member : (names : List ℕ) (name : ℕ) → slice_get names 0 ≡ Some name → is_member nat_eq names name ≡ true
 first_member [] name e = absurd (cc)
 first_member (n ∷ names) name e = or_left _ _ (eq-eqb name n (sym (let f : n ≡ name = cc in f)))
@@ -136,7 +125,7 @@ named_by-back place word name e = (member-names_at place word name).0 (first_mem
 named_word : (place : FinMap nat_cmp ℕ) (word : ℕ) (found : Option ℕ) (value : Value) → named_by place word ≡ found → option_map Name found ≡ Some value → value_word place value ≡ word
 named_word place word None value e v = absurd (none_some value v)
 named_word place word (Some name) value e v =
-    ap (value_word place) (sym (some_same_value (Name name) value v)) ∙ ap (λ (o : Option ℕ). unwrap_or o 0) (named_by-back place word name e)
+    ap (value_word place) (sym (some_same (Name name) value v)) ∙ ap (λ (o : Option ℕ). unwrap_or o 0) (named_by-back place word name e)
 
 odd_word : (word : ℕ) → (nat_lt word (2 ^ 63) && (word % 2 == 1)) ≡ true → 2 * (word / 2) + 1 ≡ word
 odd_word word t = let odd : word % 2 ≡ 1 = eqb-true (word % 2) 1 (and_parts (nat_lt word (2 ^ 63)) (word % 2 == 1) t).1 in omega (arith, odd)
@@ -146,11 +135,11 @@ pub word_value-forth : (place : FinMap nat_cmp ℕ) (word : ℕ) (value : Value)
 word_value-forth place word value e = ⊎_elim
     (λ (is_nil : (word == 0) ≡ true).
     let is : word_value place word ≡ Some Nil = rw is_nil refl in
-    ap (value_word place) (sym (some_same_value Nil value (sym is ∙ e))) ∙ sym (eqb-true word 0 is_nil))
+    ap (value_word place) (sym (some_same Nil value (sym is ∙ e))) ∙ sym (eqb-true word 0 is_nil))
     (λ (some : (word == 0) ≡ false). ⊎_elim
     (λ (is_small : (nat_lt word (2 ^ 63) && (word % 2 == 1)) ≡ true).
     let is : word_value place word ≡ Some (Small (word / 2)) = rw (some, is_small) refl in
-    ap (value_word place) (sym (some_same_value (Small (word / 2)) value (sym is ∙ e))) ∙ odd_word word is_small)
+    ap (value_word place) (sym (some_same (Small (word / 2)) value (sym is ∙ e))) ∙ odd_word word is_small)
     (λ (large : (nat_lt word (2 ^ 63) && (word % 2 == 1)) ≡ false).
     let is : word_value place word ≡ option_map Name (named_by place word) = rw (some, large) refl in
     named_word place word (named_by place word) value refl (sym is ∙ e))

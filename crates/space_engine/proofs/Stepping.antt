@@ -5,6 +5,7 @@ use Rattle.std.proofs.KnownBytes.{Appends-nil, Appends-trans}
 use Rattle.space_io.specs.Sinks.{AppendsPrefix}
 use Rattle.std.proofs.lemmas.List.{append-nil}
 use Rattle.space_model.specs.declared.command.Command.{Command}
+use Rattle.space_model.specs.declared.command.Command.TheVariants.{Gc}
 use Rattle.space_model.specs.declared.event.Event.{Event}
 use Rattle.space_model.specs.declared.reply.Reply.{Reply}
 use Rattle.space_model.specs.declared.reply.Reply.TheVariants.{Made, Full, NoMemory, Done, Pushed, Read, Truth, Scanned, Refused}
@@ -19,9 +20,10 @@ use Rattle.space_engine.specs.declared.counts.Counts.{Counts}
 use Rattle.space_engine.specs.Answered.{IsLawfulAnswer, IsAnswered, IsCutOff}
 use Rattle.space_engine.specs.Counting.{no_counts, reply_counts, output_counts, sum_of_counts, counts_of}
 use Rattle.space_engine.specs.Stands.{Holds}
-use Rattle.space_engine.specs.Steps.{Answers, Steps}
+use Rattle.space_engine.specs.Steps.{Answers, AreDone, Steps}
+use Rattle.space_engine.specs.Ticks.{IsTicked, AreTicked}
 use Rattle.space_engine.specs.Views.{View, SpaceView}
-use Rattle.space_engine.proofs.ToldLines.{text_of-append, prefix_after, prefix_longer}
+use Rattle.space_collector.proofs.ToldLines.{text_of-append, prefix_after, prefix_longer}
 
 -- a command without events
 pub answered_quietly : (old new : View) (command : Command) (reply : Reply) (known : Option (List ℕ)) → ((s : State) → Holds old s → Answers s new command reply) → IsAnswered old new command reply 0 known known
@@ -110,13 +112,19 @@ module _ (events : List Event) (reply : Reply) where
         so = so;
       }
 
+-- events tell nothing of the ledger
+outputs_ticked : (events : List Event) (reply : Reply) (before after : ℕ) → IsTicked reply before after → AreTicked (map Told events ++ Replied reply ∷ []) before after
+outputs_ticked [] reply before after t = (t, tt)
+outputs_ticked (event ∷ events) reply before after t = outputs_ticked events reply before after t
+
 module _ (old new : SpaceView) (command : Command) (can : IsGivenSmall command) where
-  pub steps_done : (reply : Reply) (gone : ℕ) (before middle after : Option (List ℕ)) → IsAnswered old.parts new.parts command reply gone before middle → IsSpelled (reply_pieces reply) → Appends middle after (line_of_pieces (reply_pieces reply)) →
-      Steps old new command (λ outputs. (sum_of_counts (record no_counts { gone = gone }) (reply_counts reply) ≡ counts_of outputs) × Appends before after (text_of outputs))
-  steps_done reply gone before middle after a spelled written = steps a.events reply old new command can a.lawful spelled _ (
-    outputs_counts a.events reply gone a.counted,
-    subst (Appends before after) (sym (outputs_text a.events reply)) (Appends-trans before middle after (text_of (map Told a.events)) (line_of_pieces (reply_pieces reply)) a.written written),
-  )
+  pub steps_done : (reply : Reply) (gone : ℕ) (before middle after : Option (List ℕ)) (ticks ticked : ℕ) → IsAnswered old.parts new.parts command reply gone before middle → IsSpelled (reply_pieces reply) → Appends middle after (line_of_pieces (reply_pieces reply)) → (command ≡ Gc → IsTicked reply ticks ticked) →
+      Steps old new command (AreDone command (sum_of_counts (record no_counts { gone = gone }) (reply_counts reply)) before after ticks ticked)
+  steps_done reply gone before middle after ticks ticked a spelled written scans = steps a.events reply old new command can a.lawful spelled _ (record {
+    counted = outputs_counts a.events reply gone a.counted;
+    written = subst (Appends before after) (sym (outputs_text a.events reply)) (Appends-trans before middle after (text_of (map Told a.events)) (line_of_pieces (reply_pieces reply)) a.written written);
+    scans = λ e. outputs_ticked a.events reply ticks ticked (scans e);
+  })
 
   -- the reply was cut off
   pub steps_fault : (reply : Reply) (gone : ℕ) (before middle after : Option (List ℕ)) → IsAnswered old.parts new.parts command reply gone before middle → IsSpelled (reply_pieces reply) → AppendsPrefix middle after (line_of_pieces (reply_pieces reply)) →

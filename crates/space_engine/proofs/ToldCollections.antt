@@ -5,21 +5,24 @@ use Rattle.space_model.specs.declared.event.Event.TheVariants.{Gone, Verdict}
 use Rattle.space_model.specs.declared.event.Kind.TheVariants.{Full}
 use Rattle.space_model.specs.declared.reply.Reply.TheVariants.{Scanned}
 use Rattle.space_model.specs.Outputs.{Told}
+use Rattle.space_model.specs.State.{State}
+use Rattle.space_model.specs.Texts.{AreSpelled}
 use Rattle.space_model.specs.WholeCollections.{verdict_events}
 use Rattle.space_heap.specs.HeapView.{HeapView}
 use Rattle.space_heap.specs.Sweeping.{settled}
 use Rattle.space_roots.specs.WordRoots.{root_words}
 use Rattle.space_engine.specs.Answered.{IsLawfulAnswer, IsAnswered, IsCutOff}
 use Rattle.space_engine.specs.Counting.{no_counts, counts_of, sum_of_counts}
-use Rattle.space_engine.specs.GoneNames.{name_at}
-use Rattle.space_engine.specs.HeapCollections.{IsHeapCollection, IsToldCollection, IsCutCollection}
+use Rattle.space_collector.specs.GoneNames.{name_at}
+use Rattle.space_engine.specs.Stands.{Holds}
+use Rattle.space_collector.specs.HeapCollections.{IsHeapCollection, IsToldCollection, IsCutCollection}
 use Rattle.space_engine.specs.Views.{View, with_heap}
 use Rattle.space_engine.proofs.AfterCollections.{collected_answers, taken_born}
-use Rattle.space_engine.proofs.GoneLists.{member_gone_names}
-use Rattle.space_engine.proofs.ToldLines.{verdict_spelled}
+use Rattle.space_collector.proofs.GoneLists.{member_gone_names}
+use Rattle.space_collector.proofs.ToldLines.{verdict_spelled}
 
 -- the lines of a verdict tell of as many gone objects as it takes
-counted_names : (names : List ℕ) (k : ℕ) → counts_of (map Told (map Gone names ++ Verdict Full k ∷ [])) ≡ record no_counts { gone = length names }
+pub counted_names : (names : List ℕ) (k : ℕ) → counts_of (map Told (map Gone names ++ Verdict Full k ∷ [])) ≡ record no_counts { gone = length names }
 counted_names [] k = refl
 counted_names (name ∷ names) k = ap (sum_of_counts (record no_counts { gone = 1 })) (counted_names names k) ∙ one_more (length names)
   where
@@ -27,14 +30,18 @@ counted_names (name ∷ names) k = ap (sum_of_counts (record no_counts { gone = 
     one_more n = ap (λ k. record no_counts { gone = k }) (omega arith)
 
 module _ (v new : View) (rest : new ≡ with_heap v new.heap) (born : v.heap.counters.born < 2 ^ 62) where
+  -- the lines of its verdict can be written
+  pub collection_spelled : (scans : ℕ) (names : List ℕ) → IsHeapCollection v.heap new.heap (root_words v.roots) v.stack scans names → (s : State) → Holds v s → AreSpelled (map Told (verdict_events Full names))
+  collection_spelled scans names c s h = rw c.names_are (verdict_spelled (settled c.marked Full) Full c.waiting (λ a e.
+      let member = (member_gone_names (settled c.marked Full) (name_at (settled c.marked Full) a)).1 (a, e, refl) in
+      let most = taken_born v s h new.heap scans names c (name_at (settled c.marked Full) a) member in
+      let many = h.represents.progress.born in
+      omega (arith, most, many, born)))
+
   lawful_collection : (scans : ℕ) (names : List ℕ) → IsHeapCollection v.heap new.heap (root_words v.roots) v.stack scans names → IsLawfulAnswer v new Gc (verdict_events Full names) (Scanned scans)
   lawful_collection scans names c = record {
     answers = λ s h. rw rest (collected_answers v s h new.heap scans names c);
-    spelled = λ s h. rw c.names_are (verdict_spelled (settled c.marked Full) Full c.waiting (λ a e.
-        let member = (member_gone_names (settled c.marked Full) (name_at (settled c.marked Full) a)).1 (a, e, refl) in
-        let most = taken_born v s h new.heap scans names c (name_at (settled c.marked Full) a) member in
-        let many = h.represents.progress.born in
-        omega (arith, most, many, born)));
+    spelled = collection_spelled scans names c;
   }
 
   pub answered_collection : (scans gone : ℕ) (before after : Option (List ℕ)) → IsToldCollection v.heap new.heap (root_words v.roots) v.stack scans gone before after → IsAnswered v new Gc (Scanned scans) gone before after

@@ -24,11 +24,11 @@ use Rattle.space_heap.specs.Sweeping.{is_white, is_gone, settled}
 use Rattle.space_heap.proofs.ObjectLaws.{stands_from_object}
 use Rattle.space_heap.proofs.SettledLaws.{is_gone-settled, is_object-settled, stays-settled}
 use Rattle.space_roots.specs.WordRoots.{root_words}
-use Rattle.space_engine.specs.GoneNames.{name_at, gone_names}
-use Rattle.space_engine.specs.HeapCollections.{IsHeapCollection}
+use Rattle.space_collector.specs.GoneNames.{name_at, gone_names}
+use Rattle.space_collector.specs.HeapCollections.{IsHeapCollection}
 use Rattle.space_engine.specs.Stands.{Holds}
 use Rattle.space_engine.specs.Views.{View}
-use Rattle.space_engine.proofs.GoneLists.{member_gone_names, gone_names_rising}
+use Rattle.space_collector.proofs.GoneLists.{member_gone_names, gone_names_rising}
 use Rattle.space_engine.proofs.Reaching.{live_from_reached, reached_from_live, reached_count}
 
 white_is : (colour : Colour) → is_white colour ≡ true → colour ≡ White

@@ -1,41 +1,21 @@
--- The heap after a birth.
-use Rattle.std.specs.Prelude.{◌≡◌, false, ◌⊎◌, ℕ, ◌+◌, List}
+-- The space after a birth.
+use Rattle.std.specs.Prelude.{◌≡◌, ℕ, Bool, List, if◌then◌else◌}
 use Rattle.space_model.specs.declared.object.Guard.{Guard}
 use Rattle.space_model.specs.declared.object.Style.{Style}
+use Rattle.space_model.specs.declared.reply.Reply.{Reply}
+use Rattle.space_model.specs.declared.reply.Reply.TheVariants.{Made, Full}
 use Rattle.space_model.specs.Layout.{pool_for}
-use Rattle.space_heap.specs.HeapView.{HeapView, no_page, page_at, is_unswept, with_page}
-use Rattle.space_heap.specs.Slots.{new_object}
-use Rattle.space_heap.specs.Objects.{placed}
-use Rattle.space_heap.specs.FreeSlots.{IsLeastFree, HasNoFree}
-use Rattle.space_heap.specs.NewPages.{IsNextPage, IsAtLimit}
-use Rattle.space_engine.specs.Views.{View, with_heap, with_root_written}
+use Rattle.space_collector.specs.Births.{IsBirth, LacksRoom}
+use Rattle.space_engine.specs.Views.{View, with_heap, with_root_dropped, with_root_written}
 
--- no address was free for the pool, and it got this page
-pub record GetsPage (v w : HeapView) (pool page : ℕ) : Type 0 where
-  pub none_free : HasNoFree v pool
-  pub next : IsNextPage v page
-  pub blank : page_at v page ≡ no_page
-  pub swept : is_unswept v page ≡ false
-  pub becomes : w ≡ with_page v page pool
-
--- the heap is as it was, or the pool got a page since no address was free for it
-abbrev pub HasRoom : HeapView → HeapView → ℕ → Type 0
-HasRoom v w pool = (w ≡ v) ⊎ ((page : ℕ) × GetsPage v w pool page)
-
--- no address is free for the pool, and it can't get a page
-abbrev pub LacksRoom : HeapView → ℕ → Type 0
-LacksRoom v pool = HasNoFree v pool × IsAtLimit v
-
--- an object with so many fields was born with this name at this address, the least that is free for its pool
-pub record IsBirth (v w : HeapView) (fields : ℕ) (guard : Guard) (style : Style) (name address : ℕ) : Type 0 where
-  -- the heap in which the address is free
-  pub roomy : HeapView
-  pub room : HasRoom v roomy (pool_for fields)
-  pub least : IsLeastFree roomy (pool_for fields) address
-  pub named : name ≡ v.counters.born + 1
-  pub becomes : w ≡ placed roomy address (new_object name fields guard style)
-
--- the same, and the root holds the address
+-- an object was born with this name at this address, and the root holds the address
 pub record IsRootedBirth (v w : View) (root : List ℕ) (fields : ℕ) (guard : Guard) (style : Style) (name address : ℕ) : Type 0 where
   pub birth : IsBirth v.heap w.heap fields guard style name address
   pub becomes : w ≡ with_root_written (with_heap v w.heap) root address
+
+-- what comes of a birth for a root whose place was made before, where no page takes memory: an object was made, and the root holds
+-- it; or there is no room, and a root that is new was taken away again
+abbrev pub IsLastReply : View → View → List ℕ → Bool → ℕ → Guard → Style → Reply → Type 0
+IsLastReply v w root is_new fields guard style (Made name address) = IsRootedBirth v w root fields guard style name address
+IsLastReply v w root is_new fields guard style Full = LacksRoom v.heap (pool_for fields) × (w ≡ (if is_new then with_root_dropped v root else v))
+IsLastReply v w root is_new fields guard style _ = ⊥

@@ -1,7 +1,7 @@
 -- What the fields of a space stand for.
 use Rattle.space_engine.specs.declared.engine.Engine.TheInside.{Inside as EngineInside}
 use Rattle.space_engine.specs.declared.space.Space.TheInside.{Inside as SpaceInside}
-use Rattle.space_engine.specs.Tidy.{IsWithinTurns}
+use Rattle.space_engine.specs.Turns.{IsWithinTurns}
 use Rattle.space_engine.specs.Views.{View, SpaceView}
 
 -- the parts of an engine

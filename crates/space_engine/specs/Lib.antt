@@ -2,11 +2,9 @@ pub mod Views
 pub mod Inside
 pub mod Births
 pub mod Words
-pub mod GoneNames
-pub mod AllSwept
-pub mod Tidy
-pub mod HeapCollections
+pub mod Turns
 pub mod Stands
 pub mod Counting
+pub mod Ticks
 pub mod Steps
 pub mod Answered

@@ -1,20 +1,21 @@
 // The parts of a space, and its answers.
-ghost use Rattle.std.specs.Prelude.{◌≡◌, ◌≤◌, ◌<◌, ◌+◌, ◌^◌, IfOk, OnErr, IfSome, IfNone};
+ghost use Rattle.std.specs.Prelude.{◌≡◌, ◌≤◌, ◌<◌, ◌+◌, ◌^◌, IfOk, OnErr};
 ghost use Rattle.space_io.specs.Causes.{HasCause};
 ghost use Rattle.space_model.specs.Sound.{IsGivenSmall};
-ghost use Rattle.space_model.specs.State.{State, opening};
+ghost use Rattle.space_model.specs.State.{opening};
 ghost use Rattle.space_engine.specs.Answered.{IsAnswered, IsCutOff};
 ghost use Rattle.space_engine.specs.Stands.{Holds};
-ghost use Rattle.space_engine.specs.Steps.{Answers};
-ghost use Rattle.space_engine.specs.Tidy.{IsTidy, GoesOn};
+ghost use Rattle.space_engine.specs.Ticks.{IsTicked};
+ghost use Rattle.space_engine.specs.Turns.{CanAnswer, GoesOn};
 ghost use Rattle.space_engine.specs.Views.{empty_view};
 
+mod new_command;
 mod object_commands;
 mod reading;
 mod root_commands;
 mod stack_commands;
 
-use crate::collecting::collect;
+use space_collector::collect;
 use space_heap::Heap;
 use space_io::{Sink, WriteFault};
 use space_model::{Command, Ledger, Phase, Reply, Steps};
@@ -70,60 +71,18 @@ impl Engine {
         self.heap.phase()
     }
 
-    // The reply of a command without events.
-    fn reply_to<L: Ledger>(&mut self, command: &Command, steps: &mut Steps<L>) -> Option<Reply>
-        requires given { IsGivenSmall command.now }
-        requires names { self.old.heap.counters.born < 2 ^ 62 }
-        requires steps { steps.old < 2 ^ 62 }
-        ensures answers { IfSome result (λ reply. (s : State) → Holds self.old s → Answers s self.new command.now reply) }
-        ensures collects { IfNone result (command.now ≡ Command.Gc) }
-        ensures unchanged { IfNone result (self.new ≡ self.old) }
-        ensures quiet { IfNone result (steps.new ≡ steps.old) }
-        ensures goes_on { GoesOn self.old.heap self.new.heap }
-        ensures steps { (steps.old ≤ steps.new) × (steps.new ≤ steps.old + 1) }
-    {
-        Some(match command {
-            Command::New {
-                root,
-                fields,
-                guard,
-                style,
-            } => self.create(root, *fields, *guard, *style),
-            Command::Set { root, value } => self.set(root, value),
-            Command::DropRoot { root } => self.drop_root(root),
-            Command::Push { value } => self.push(value),
-            Command::Raw { word } => self.raw(*word),
-            Command::Pop => self.pop(),
-            Command::Store {
-                object,
-                index,
-                value,
-            } => self.store(object, *index, value),
-            Command::Load {
-                root,
-                object,
-                index,
-            } => self.load(root, object, *index, steps),
-            Command::Same { left, right } => self.compare(left, right),
-            Command::Gc => return None,
-        })
-    }
-
     // Collects what no root and no word of the stack leads to.
     fn collect<K: Sink, L: Ledger>(
         &mut self,
         sink: &mut K,
         steps: &mut Steps<L>,
     ) -> Result<Answer, WriteFault>
-        requires tidy { IsTidy self.old.heap }
-        requires names { self.old.heap.counters.born < 2 ^ 62 }
-        requires minors { self.old.heap.counters.minor_verdicts < 2 ^ 62 }
-        requires others { self.old.heap.counters.other_verdicts < 2 ^ 62 }
-        requires freed { self.old.heap.counters.freed < 2 ^ 61 }
+        requires able { CanAnswer self.old.heap }
         requires steps { steps.old < 2 ^ 62 }
         ensures done { IfOk result (λ answer. IsAnswered self.old self.new Command.Gc answer.reply answer.gone (K.written sink.old) (K.written sink.new)) }
         ensures fault { OnErr result (IsCutOff self.old self.new Command.Gc (K.written sink.old) (K.written sink.new)) }
         ensures cause { HasCause (K.faults sink.old) (K.faults sink.new) result }
+        ensures scans { IfOk result (λ answer. IsTicked answer.reply steps.old steps.new) }
         ensures goes_on { GoesOn self.old.heap self.new.heap }
         ensures steps { (steps.old ≤ steps.new) × (steps.new < steps.old + 2 ^ 26) }
     {
@@ -145,21 +104,40 @@ impl Engine {
         steps: &mut Steps<L>,
     ) -> Result<Answer, WriteFault>
         requires given { IsGivenSmall command.now }
-        requires tidy { IsTidy self.old.heap }
-        requires names { self.old.heap.counters.born < 2 ^ 62 }
-        requires minors { self.old.heap.counters.minor_verdicts < 2 ^ 62 }
-        requires others { self.old.heap.counters.other_verdicts < 2 ^ 62 }
-        requires freed { self.old.heap.counters.freed < 2 ^ 61 }
+        requires able { CanAnswer self.old.heap }
         requires steps { steps.old < 2 ^ 62 }
         ensures done { IfOk result (λ answer. IsAnswered self.old self.new command.now answer.reply answer.gone (K.written sink.old) (K.written sink.new)) }
         ensures fault { OnErr result (IsCutOff self.old self.new command.now (K.written sink.old) (K.written sink.new)) }
         ensures cause { HasCause (K.faults sink.old) (K.faults sink.new) result }
+        ensures scans { command.now ≡ Command.Gc → IfOk result (λ answer. IsTicked answer.reply steps.old steps.new) }
         ensures goes_on { GoesOn self.old.heap self.new.heap }
         ensures steps { (steps.old ≤ steps.new) × (steps.new < steps.old + 2 ^ 26) }
     {
-        match self.reply_to(command, steps) {
-            Some(reply) => Ok(Answer { reply, gone: 0 }),
-            None => self.collect(sink, steps),
-        }
+        let reply = match command {
+            Command::New {
+                root,
+                fields,
+                guard,
+                style,
+            } => return self.create(root, *fields, *guard, *style, sink, steps),
+            Command::Gc => return self.collect(sink, steps),
+            Command::Set { root, value } => self.set(root, value),
+            Command::DropRoot { root } => self.drop_root(root),
+            Command::Push { value } => self.push(value),
+            Command::Raw { word } => self.raw(*word),
+            Command::Pop => self.pop(),
+            Command::Store {
+                object,
+                index,
+                value,
+            } => self.store(object, *index, value),
+            Command::Load {
+                root,
+                object,
+                index,
+            } => self.load(root, object, *index, steps),
+            Command::Same { left, right } => self.compare(left, right),
+        };
+        Ok(Answer { reply, gone: 0 })
     }
 }

@@ -1,14 +1,12 @@
 // The space, as its users see it.
 ghost use Rattle.std.specs.Prelude.{◌≡◌, ◌≤◌, ◌<◌, ◌+◌, ◌^◌, false, IfOk, OnErr, is_err};
-ghost use Rattle.std.specs.Io.KnownBytes.{Appends};
 ghost use Rattle.space_io.specs.Causes.{HasCause};
 ghost use Rattle.space_io.specs.Sinks.{AppendsPrefix};
 ghost use Rattle.space_model.specs.Sound.{IsGivenSmall};
 ghost use Rattle.space_model.specs.State.{State, opening};
 ghost use Rattle.space_model.specs.Texts.{text_of};
-ghost use Rattle.space_engine.specs.Counting.{counts_of};
 ghost use Rattle.space_engine.specs.Stands.{Stands};
-ghost use Rattle.space_engine.specs.Steps.{Steps as LawfulSteps};
+ghost use Rattle.space_engine.specs.Steps.{AreDone, Steps as LawfulSteps};
 ghost use Rattle.space_engine.specs.Views.{empty_space};
 
 use crate::counts::{Counts, counts_of_answer};
@@ -88,8 +86,8 @@ impl Space {
         requires steps { steps.old < 2 ^ 62 }
 
         // The outputs are lawful, from each state that the space stands for, and it stands for a state after them. They
-        // were written, and the counts are theirs.
-        ensures done { IfOk result (λ counts. LawfulSteps self.old self.new command.now (λ outputs. (counts ≡ counts_of outputs) × Appends (K.written sink.old) (K.written sink.new) (text_of outputs))) }
+        // were written, and the counts are theirs. In `gc` the ledger's count rises by the scans that it tells.
+        ensures done { IfOk result (λ counts. LawfulSteps self.old self.new command.now (AreDone command.now counts (K.written sink.old) (K.written sink.new) steps.old steps.new)) }
         ensures fault { OnErr result (LawfulSteps self.old self.new command.now (λ outputs. AppendsPrefix (K.written sink.old) (K.written sink.new) (text_of outputs))) }
         ensures cause { HasCause (K.faults sink.old) (K.faults sink.new) result }
         ensures spent { self.new.is_spent ≡ is_err result }

@@ -23,6 +23,7 @@ pub mod CorpseNames
 pub mod VerdictLaws
 pub mod SweptLaws
 pub mod WholeLaws
+pub mod FullLaws
 pub mod SoundKept
 pub mod Cutting
 pub mod Apart

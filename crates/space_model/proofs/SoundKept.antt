@@ -24,7 +24,7 @@ use Rattle.space_model.specs.Graph.{IsChild, item_of}
 use Rattle.space_model.specs.Lawful.{Effects, Lawful, LawfulAll}
 use Rattle.space_model.specs.Layout.{page_of, pool_for}
 use Rattle.space_model.specs.Moments.{noted, parents_of_young_in}
-use Rattle.space_model.specs.New.{IsBirthPlace, NewReply}
+use Rattle.space_model.specs.New.{IsBirthPlace, IsReady, News}
 use Rattle.space_model.specs.Operands.{operand_value, input_value}
 use Rattle.space_model.specs.Outputs.{Output}
 use Rattle.space_model.specs.Pieces.{new_item, item_stored, born, rooted, unrooted, stacked, stored}
@@ -43,7 +43,7 @@ use Rattle.space_model.proofs.Members.{member_filter}
 use Rattle.space_model.proofs.ReachedLaws.{member-keys}
 use Rattle.space_model.proofs.Reaching.{IsReached-least}
 use Rattle.space_model.proofs.ValuesHold.{input_holds, read_holds, write_holds}
-use Rattle.space_model.proofs.WholeLaws.{collects_sound}
+use Rattle.space_model.proofs.WholeLaws.{Sound-collects_all, collects_sound}
 use Rattle.space_model.proofs.ValuesKept.{IsPresentValue, name_present, present_kept, small_kept, AreSoundItems-push, AreSoundItems-stored, AreSoundRoots-with_root, AreSoundRoots-without_root}
 
 abbrev none_yet : FinMap nat_cmp ℕ
@@ -95,6 +95,7 @@ Sound-opening limit = record {
     none = λ e. refl;
   };
   used = λ a b page e m. absurd (false≢true e);
+  left = refl;
   items = tt;
   roots = tt;
   names = record {
@@ -119,6 +120,7 @@ Sound-born s t root fields guard style address few place e h =
       corpses = SoundCorpses-born s root fields guard style address h.layout fresh (fresh_corpse s fields address h.corpses.buried place) h.corpses;
       sweep = SoundSweep-born s.collector.phase s.heap.pages s.heap.unswept (page_of address) (pool_for fields) fresh.below h.sweep;
       used = SoundUsed-born s.graph s.collector.phase s.heap.pages s.heap.unswept s.heap.place address (pool_for fields) fresh.below h.layout.placed h.used;
+      left = h.left;
       names = SoundNames-born s root fields guard style address h.layout.placed h.names;
       items = AreSoundItems-push s.graph guard style fields few h.items;
       roots = AreSoundRoots-with_root s.roots root (Name (length s.graph + 1)) tt h.roots;
@@ -132,6 +134,7 @@ Sound-rooted s t root value present small e h = after_piece (rooted s root value
   corpses = h.corpses;
   sweep = h.sweep;
   used = h.used;
+  left = h.left;
   names = SoundNames-rooted s.graph s.roots s.heap.place root value present h.names;
   items = h.items;
   roots = AreSoundRoots-with_root s.roots root value small h.roots;
@@ -145,6 +148,7 @@ Sound-unrooted s t root e h = after_piece (unrooted s root) t e (record {
   corpses = h.corpses;
   sweep = h.sweep;
   used = h.used;
+  left = h.left;
   names = SoundNames-unrooted s.graph s.roots s.heap.place root h.names;
   items = h.items;
   roots = AreSoundRoots-without_root s.roots root h.roots;
@@ -159,6 +163,7 @@ Sound-stacked s t words e h = after_piece (stacked s words) t e (record {
   corpses = h.corpses;
   sweep = h.sweep;
   used = h.used;
+  left = h.left;
   names = h.names;
   items = h.items;
   roots = h.roots;
@@ -175,6 +180,7 @@ Sound-stored s t name index value there present small e h =
       corpses = SoundCorpses-stored s name index value h.layout.placed b.0 b.1 h.corpses;
       sweep = h.sweep;
       used = h.used;
+      left = h.left;
       names = SoundNames-stored s name index value h.layout.placed b.0 b.1 present h.names;
       items = AreSoundItems-stored s.graph name index value small h.items;
       roots = h.roots;
@@ -182,12 +188,20 @@ Sound-stored s t name index value there present small e h =
       once = h.moments.once;
     })
 
-new_sound : (s t : State) (root : List ℕ) (fields : ℕ) (guard : Guard) (style : Style) (reply : Reply) → NewReply s root fields guard style reply t → Sound s → Sound t
-new_sound s t root fields guard style (Made name address) e h = Sound-born s t root fields guard style address e.few e.place e.after h
-new_sound s t root fields guard style Full e h = subst Sound (sym e.unchanged) h
-new_sound s t root fields guard style NoMemory e h = subst Sound (sym e.1) h
-new_sound s t root fields guard style (Refused why) e h = subst Sound (sym e.2) h
-new_sound s t root fields guard style _ e h = absurd e
+-- the state in which an object gets its place is sound
+pub Sound-ready : (s ready : State) (pool : ℕ) (events : List Event) → IsReady s pool events ready → Sound s → Sound ready
+Sound-ready s ready pool events r h = ⊎_elim
+    (λ (_, same). subst Sound (sym same) h)
+    (λ first. Sound-collects_all s ready events first.scans first.collects h)
+    r
+
+new_sound : (s t : State) (root : List ℕ) (fields : ℕ) (guard : Guard) (style : Style) (events : List Event) (reply : Reply) → News s root fields guard style events reply t → Sound s → Sound t
+new_sound s t root fields guard style events (Made name address) e h =
+    Sound-born e.ready t root fields guard style address e.few e.place e.after (Sound-ready s e.ready (pool_for fields) events e.readied h)
+new_sound s t root fields guard style events Full e h = Sound-collects_all s t events e.collected.scans e.collected.collects h
+new_sound s t root fields guard style events NoMemory e h = subst Sound (sym e.2) h
+new_sound s t root fields guard style events (Refused why) e h = subst Sound (sym e.3) h
+new_sound s t root fields guard style events _ e h = absurd e
 
 root_sound : (s t : State) (root : List ℕ) (value : Value) (answer reply : Reply) → IsPresentValue s.heap.place value → IsSmall value → WritesRoot s root value answer reply t → Sound s → Sound t
 root_sound s t root value answer reply present small w h = ⊎_elim
@@ -239,7 +253,7 @@ store_sound s t object index input (Ok written) reply i f e h =
 store_sound s t object index input (Err why) reply i f e h = subst Sound (sym e.unchanged) h
 
 effects_sound : (s t : State) (command : Command) (events : List Event) (reply : Reply) → IsGivenSmall command → Effects s command events reply t → Sound s → Sound t
-effects_sound s t (New root fields guard style) events reply i e h = new_sound s t root fields guard style reply e.1 h
+effects_sound s t (New root fields guard style) events reply i e h = new_sound s t root fields guard style events reply e h
 effects_sound s t (Set root value) events reply i e h = set_sound s t root value (input_value s value) reply i refl e.1 h
 effects_sound s t (DropRoot root) events reply i e h = drop_sound s t root (root_value s.roots root) reply e.1 h
 effects_sound s t (Push value) events reply i e h = push_sound s t (input_value s value) reply e.1 h

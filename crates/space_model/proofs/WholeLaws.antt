@@ -31,6 +31,14 @@ use Rattle.space_model.proofs.ReachedLaws.{member-keys, member-reached_names}
 use Rattle.space_model.proofs.RisingNames.{rising_names, IsRising-rising_names, member-rising_names}
 use Rattle.space_model.proofs.VerdictLaws.{verdict_marked, seen_count, scans_are_reached, full_leaves_reached, reach_outlives, full_verdict, CountIs-reached}
 
+-- what no collection changes: the objects, the roots and the stack, and how many pages there are and may be
+pub record IsKept (s t : State) : Type 0 where
+  pub graph : t.graph ≡ s.graph
+  pub roots : t.roots ≡ s.roots
+  pub stack : t.stack ≡ s.stack
+  pub limit : t.heap.limit ≡ s.heap.limit
+  pub page_count : length t.heap.pages ≡ length s.heap.pages
+
 -- what what is reached rests on is the same
 record SameReach (s t : State) : Type 0 where
   graph : t.graph ≡ s.graph
@@ -63,6 +71,30 @@ completion_idle Fixing s t events e c h = absurd c
 pub completed_idle : (s t : State) (events : List Event) → Completes s events t → Sound s → t.collector.phase ≡ Idle
 completed_idle s t events c h = completion_idle s.collector.phase s t events refl c h
 
+IsKept-same : (s : State) → IsKept s s
+IsKept-same s = record { graph = refl; roots = refl; stack = refl; limit = refl; page_count = refl }
+
+IsKept-swept_all : (s t : State) (freed : List ℕ) → SweepAll s freed t → IsKept s t
+IsKept-swept_all s t freed sweep =
+    let k = SweepAll-swept s t freed sweep in
+    record { graph = k.graph; roots = k.roots; stack = k.stack; limit = k.limit; page_count = k.page_count }
+
+IsKept-then : (s u t : State) → IsKept s u → IsKept u t → IsKept s t
+IsKept-then s u t h k = record {
+  graph = k.graph ∙ h.graph;
+  roots = k.roots ∙ h.roots;
+  stack = k.stack ∙ h.stack;
+  limit = k.limit ∙ h.limit;
+  page_count = k.page_count ∙ h.page_count;
+}
+
+completion_keeps : (phase : Phase) (s t : State) (events : List Event) → CompletesIn phase s events t → IsKept s t
+completion_keeps Idle s t events c = subst (IsKept s) (sym c.1) (IsKept-same s)
+completion_keeps Marking s t events c = absurd c
+completion_keeps Sweeping s t events c = IsKept-swept_all s t c.0 c.2
+completion_keeps Moving s t events c = absurd c
+completion_keeps Fixing s t events c = absurd c
+
 completion_same : (phase : Phase) (s t : State) (events : List Event) → CompletesIn phase s events t → SameReach s t
 completion_same Idle s t events c = subst (SameReach s) (sym c.1) (record { graph = refl; roots = refl; stack = refl; place = refl })
 completion_same Marking s t events c = absurd c
@@ -70,15 +102,15 @@ completion_same Sweeping s t events c = let k = SweepAll-swept s t c.0 c.2 in re
 completion_same Moving s t events c = absurd c
 completion_same Fixing s t events c = absurd c
 
+same_reach : (s t : State) → SameReach s t → (n : ℕ) → Reach t n ↔ Reach s n
+same_reach s t k n = ((λ r. rw (k.graph, k.roots, k.stack, k.place) at r), (λ r. rw (sym k.graph, sym k.roots, sym k.stack, sym k.place) at r))
+
 -- the same names are reached after a completion
 pub completed_reach : (s t : State) (events : List Event) → Completes s events t → (n : ℕ) → Reach t n ↔ Reach s n
-completed_reach s t events c n =
-    let k = completion_same s.collector.phase s t events c in (
-      (λ r. rw (k.graph, k.roots, k.stack, k.place) at r),
-      (λ r. rw (sym k.graph, sym k.roots, sym k.stack, sym k.place) at r),
-    )
+completed_reach s t events c n = same_reach s t (completion_same s.collector.phase s t events c) n
 
-counted_also : (P Q : ℕ → Type 0) (count : ℕ) → ((n : ℕ) → P n ↔ Q n) → CountIs P count → CountIs Q count
+-- as many have a property as have another that comes to the same
+pub counted_also : (P Q : ℕ → Type 0) (count : ℕ) → ((n : ℕ) → P n ↔ Q n) → CountIs P count → CountIs Q count
 counted_also P Q count same c = record {
   names = c.names;
   once = c.once;
@@ -95,15 +127,21 @@ collection_scans s t events scans c =
     subst (CountIs (Reach s)) (sym c.scans_are)
     (counted_also (Reach c.idle) (Reach s) (length c.marked.history.seen) (completed_reach s c.idle c.completion c.completes) (scans_are_reached c.idle c.marked c.starts))
 
+-- the same names are reached after a whole collection as before it
+pub collection_reach : (s t : State) (events : List Event) (scans : ℕ) → IsCollection s events scans t → (n : ℕ) → Reach t n ↔ Reach s n
+collection_reach s t events scans c n =
+    let kept = reach_outlives c.marked Full c.taken c.verdict t c.takes n in
+    let marked = marked_reach c.idle c.marked c.starts n in
+    let before = completed_reach s c.idle c.completion c.completes n in
+    ((λ r. before.0 (marked.0 (kept.0 r))), (λ r. kept.1 (marked.1 (before.1 r))))
+
 -- and what was reached before it is what is present after it
 pub collection_leaves : (s t : State) (events : List Event) (scans : ℕ) → IsCollection s events scans t → Sound s → (n : ℕ) → (is_present t n ≡ true) ↔ Reach s n
 collection_leaves s t events scans c h n =
     let sound = Sound-start c.idle c.marked c.starts (Sound-completed s c.idle c.completion c.completes h) in
     let there = full_leaves_reached c.marked t c.taken c.verdict c.takes sound n in
-    let kept = reach_outlives c.marked Full c.taken c.verdict t c.takes n in
-    let marked = marked_reach c.idle c.marked c.starts n in
-    let before = completed_reach s c.idle c.completion c.completes n in
-    ((λ p. before.0 (marked.0 (kept.0 (there.0 p)))), (λ r. there.1 (kept.1 (marked.1 (before.1 r)))))
+    let same = collection_reach s t events scans c n in
+    ((λ p. same.0 (there.0 p)), (λ r. there.1 (same.1 r)))
 
 pub collects_leaves : (s t : State) (events : List Event) (scans : ℕ) → CollectsAll s events scans t → Sound s → (n : ℕ) → (is_present t n ≡ true) ↔ Reach s n
 collects_leaves s t events scans c h n =
@@ -112,13 +150,44 @@ collects_leaves s t events scans c h n =
     let k = collection_leaves s c.unswept events scans c.collects h n in
     ((λ p. k.0 (sym e ∙ p)), (λ r. e ∙ k.1 r))
 
+-- and the same after the sweep of all pages that follows it
+pub collects_reach : (s t : State) (events : List Event) (scans : ℕ) → CollectsAll s events scans t → (n : ℕ) → Reach t n ↔ Reach s n
+collects_reach s t events scans c n =
+    let k = SweepAll-swept c.unswept t c.freed c.sweeps in
+    let now = same_reach c.unswept t (record { graph = k.graph; roots = k.roots; stack = k.stack; place = k.place }) n in
+    let before = collection_reach s c.unswept events scans c.collects n in
+    ((λ r. before.0 (now.0 r)), (λ r. now.1 (before.1 r)))
+
+collection_keeps : (s t : State) (events : List Event) (scans : ℕ) → IsCollection s events scans t → IsKept s t
+collection_keeps s t events scans c =
+    let marked : IsKept c.idle c.marked = subst (IsKept c.idle) (sym c.starts) (record { graph = refl; roots = refl; stack = refl; limit = refl; page_count = refl }) in
+    let taken : IsKept c.marked t = subst (IsKept c.marked) (sym c.takes) (record { graph = refl; roots = refl; stack = refl; limit = refl; page_count = refl }) in
+    IsKept-then s c.idle t (completion_keeps s.collector.phase s c.idle c.completion c.completes) (IsKept-then c.idle c.marked t marked taken)
+
+-- what is as it was after a whole collection and the sweep of all pages
+pub collects_keeps : (s t : State) (events : List Event) (scans : ℕ) → CollectsAll s events scans t → IsKept s t
+collects_keeps s t events scans c =
+    IsKept-then s c.unswept t (collection_keeps s c.unswept events scans c.collects) (IsKept-swept_all c.unswept t c.freed c.sweeps)
+
+-- and nothing is under way after it, and no page waits
+pub collects_idle : (s t : State) (events : List Event) (scans : ℕ) → CollectsAll s events scans t → t.collector.phase ≡ Idle
+collects_idle s t events scans c =
+    (SweepAll-swept c.unswept t c.freed c.sweeps).phase
+    (subst (λ (u : State). u.collector.phase ≡ sweep_phase u.heap.unswept) (sym c.collects.takes) refl)
+
+pub collects_none_waits : (s t : State) (events : List Event) (scans : ℕ) → CollectsAll s events scans t → t.heap.unswept ≡ []
+collects_none_waits s t events scans c = (SweepAll-swept c.unswept t c.freed c.sweeps).none_waits
+
 pub Sound-collection : (s t : State) (events : List Event) (scans : ℕ) → IsCollection s events scans t → Sound s → Sound t
 Sound-collection s t events scans c h =
     Sound-took c.marked t Full c.taken c.verdict c.takes
     (Sound-start c.idle c.marked c.starts (Sound-completed s c.idle c.completion c.completes h))
 
+pub Sound-collects_all : (s t : State) (events : List Event) (scans : ℕ) → CollectsAll s events scans t → Sound s → Sound t
+Sound-collects_all s t events scans c h = Sound-swept_all c.unswept t c.freed c.sweeps (Sound-collection s c.unswept events scans c.collects h)
+
 pub collects_sound : (s t : State) (events : List Event) (reply : Reply) → Collects s events reply t → Sound s → Sound t
-collects_sound s t events (Scanned scans) c h = Sound-swept_all c.unswept t c.freed c.sweeps (Sound-collection s c.unswept events scans c.collects h)
+collects_sound s t events (Scanned scans) c h = Sound-collects_all s t events scans c h
 collects_sound s t events _ c h = absurd c
 
 -- the state after `gc` where nothing was under way, by the names that are taken

@@ -8,15 +8,20 @@ use Rattle.space_model.specs.declared.command.Operand.TheVariants.{Word}
 use Rattle.space_model.specs.declared.event.Event.{Event}
 use Rattle.space_model.specs.declared.event.Kind.{Kind}
 use Rattle.space_model.specs.declared.event.Kind.TheVariants.{Full}
-use Rattle.space_model.specs.declared.reply.Reply.TheVariants.{Pushed, Scanned}
+use Rattle.space_model.specs.declared.object.Guard.{Guard}
+use Rattle.space_model.specs.declared.object.Style.{Style}
+use Rattle.space_model.specs.declared.reply.Reply.TheVariants.{Pushed, Scanned, Full as FullReply}
 use Rattle.space_model.specs.declared.phase.Phase.TheVariants.{Idle}
 use Rattle.space_model.specs.Collections.{StartMark, Took, Sweep1, SweepAll}
 use Rattle.space_model.specs.Counts.{CountIs}
 use Rattle.space_model.specs.Graph.{IsChild}
 use Rattle.space_model.specs.Lawful.{Lawful, LawfulAll}
+use Rattle.space_model.specs.Layout.{pool_for}
 use Rattle.space_model.specs.Moments.{noted, SameMoments}
+use Rattle.space_model.specs.New.{News}
 use Rattle.space_model.specs.Operands.{operand_value, input_value}
 use Rattle.space_model.specs.Outputs.{Output}
+use Rattle.space_model.specs.Places.{FullAt}
 use Rattle.space_model.specs.Reach.{Reach, IsStart}
 use Rattle.space_model.specs.Reached.{reached_names}
 use Rattle.space_model.specs.Sound.{Sound, SoundMoments, IsSmallInput, IsGivenSmall, AreGivenSmall}
@@ -106,6 +111,16 @@ GcLeavesReached = (s t : State) (events : List Event) (scans : ℕ) → Collects
 -- where nothing is under way, a sound state has a `gc`
 abbrev pub GcIsThere : Type 0
 GcIsThere = (s : State) → Sound s → s.collector.phase ≡ Idle → (events : List Event) × (scans : ℕ) × (t : State) × Collects s events (Scanned scans) t
+
+-- where `new` answers `full`, the heap is really full for the pool of the object
+abbrev pub FullIsFullAt : Type 0
+FullIsFullAt =
+    (s t : State) (root : List ℕ) (fields : ℕ) (guard : Guard) (style : Style) (events : List Event) → News s root fields guard style events FullReply t → Sound s → FullAt t (pool_for fields)
+
+-- and then the same names are reached as before the command, and nothing was born
+abbrev pub FullMakesNone : Type 0
+FullMakesNone =
+    (s t : State) (root : List ℕ) (fields : ℕ) (guard : Guard) (style : Style) (events : List Event) → News s root fields guard style events FullReply t → Sound s → (t.graph ≡ s.graph) × (t.roots ≡ s.roots) × ((name : ℕ) → Reach t name ↔ Reach s name)
 
 -- after a push the top of the stack has the value that was pushed
 abbrev pub PushedIsTop : Type 0

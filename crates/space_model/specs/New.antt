@@ -10,6 +10,7 @@ use Rattle.space_model.specs.Layout.{pool_for, slot_address}
 use Rattle.space_model.specs.Pieces.{Born}
 use Rattle.space_model.specs.Places.{IsNewAt, IsPoolFull, HasNoSpare, IsFreshPage}
 use Rattle.space_model.specs.State.{State}
+use Rattle.space_model.specs.WholeCollections.{CollectsAll}
 
 -- no address is free for the pool, and this is the first one of the page that gets it
 pub record IsOnFreshPage (s : State) (pool address : ℕ) : Type 0 where
@@ -28,27 +29,35 @@ pub record IsAtLimit (s : State) (pool : ℕ) : Type 0 where
   pub none_spare : HasNoSpare s
   pub limit : length s.heap.pages ≡ s.heap.limit
 
+-- at the limit a whole collection comes first, while the root still holds what it held
+pub record CollectsFirst (s : State) (pool : ℕ) (events : List Event) (ready : State) : Type 0 where
+  pub limit : IsAtLimit s pool
+  pub scans : ℕ
+  pub collects : CollectsAll s events scans ready
+
+-- the state in which the object gets its place: the one before the command; at the limit, the one after a whole collection
+abbrev pub IsReady : State → ℕ → List Event → State → Type 0
+IsReady s pool events ready = ((events ≡ []) × (ready ≡ s)) ⊎ CollectsFirst s pool events ready
+
 -- an object was made, and stands at the address
-pub record Makes (s : State) (root : List ℕ) (fields : ℕ) (guard : Guard) (style : Style) (name address : ℕ) (t : State) : Type 0 where
+pub record Makes (s : State) (root : List ℕ) (fields : ℕ) (guard : Guard) (style : Style) (events : List Event) (name address : ℕ) (t : State) : Type 0 where
   pub few : fields ≤ 78
   pub next : name ≡ length s.graph + 1
-  pub place : IsBirthPlace s (pool_for fields) address
-  pub after : Born s root fields guard style address t
+  pub ready : State
+  pub readied : IsReady s (pool_for fields) events ready
+  pub place : IsBirthPlace ready (pool_for fields) address
+  pub after : Born ready root fields guard style address t
 
--- no object can be made, and nothing was changed
-pub record MakesNone (s : State) (fields : ℕ) (t : State) : Type 0 where
+-- no object can be made, after a whole collection too, which is all that was done
+pub record MakesNone (s : State) (fields : ℕ) (events : List Event) (t : State) : Type 0 where
   pub few : fields ≤ 78
-  pub limit : IsAtLimit s (pool_for fields)
-  pub unchanged : t ≡ s
+  pub collected : CollectsFirst s (pool_for fields) events t
+  pub limit : IsAtLimit t (pool_for fields)
 
--- the reply of `new`; a refusal, and want of memory, leave the state as it was
-abbrev pub NewReply : State → List ℕ → ℕ → Guard → Style → Reply → State → Type 0
-NewReply s root fields guard style (Made name address) t = Makes s root fields guard style name address t
-NewReply s root fields guard style Full t = MakesNone s fields t
-NewReply s root fields guard style NoMemory t = (fields ≤ 78) × (t ≡ s)
-NewReply s root fields guard style (Refused why) t = (78 < fields) × (why ≡ TooLarge) × (t ≡ s)
-NewReply s root fields guard style _ t = ⊥
-
--- `new`: there are no events, until it collects
+-- the events and the reply of `new`. A refusal, and want of memory, leave the state as it was: memory is sought before a collection
 abbrev pub News : State → List ℕ → ℕ → Guard → Style → List Event → Reply → State → Type 0
-News s root fields guard style events reply t = (events ≡ []) × NewReply s root fields guard style reply t
+News s root fields guard style events (Made name address) t = Makes s root fields guard style events name address t
+News s root fields guard style events Full t = MakesNone s fields events t
+News s root fields guard style events NoMemory t = (fields ≤ 78) × (events ≡ []) × (t ≡ s)
+News s root fields guard style events (Refused why) t = (78 < fields) × (why ≡ TooLarge) × (events ≡ []) × (t ≡ s)
+News s root fields guard style events _ t = ⊥

@@ -1,10 +1,12 @@
 -- Free addresses, and where a new object stands.
-use Rattle.std.specs.Prelude.{◌≡◌, ◌≢◌, ◌⊎◌, ℕ, ◌<◌, ◌≤◌, false, length, nat_eq, None, Some}
+use Rattle.std.specs.Prelude.{◌≡◌, ◌≢◌, ◌⊎◌, ◌↔◌, ℕ, ◌<◌, ◌≤◌, true, false, length, nat_eq, None, Some}
 use Rattle.std.specs.Set.{is_member}
 use Rattle.std.specs.FinMap.{get}
+use Rattle.space_model.specs.Counts.{CountIs}
 use Rattle.space_model.specs.Layout.{slot_address, page_slots, page_of}
-use Rattle.space_model.specs.Pages.{pool_at}
-use Rattle.space_model.specs.State.{State}
+use Rattle.space_model.specs.Pages.{pool_at, is_used}
+use Rattle.space_model.specs.Reach.{Reach}
+use Rattle.space_model.specs.State.{State, is_present}
 
 -- the address is the start of a slot of a page of the pool
 pub record IsSlot (s : State) (pool address : ℕ) : Type 0 where
@@ -44,3 +46,17 @@ abbrev pub IsFreshPage : State → ℕ → Type 0
 IsFreshPage s page =
     (IsSpare s page × ((other : ℕ) → IsSpare s other → page ≤ other))
     ⊎ (HasNoSpare s × (page ≡ length s.heap.pages) × (page < s.heap.limit))
+
+-- the name is present, and its object stands on the page
+pub record StandsOn (s : State) (page name : ℕ) : Type 0 where
+  pub address : ℕ
+  pub at : get s.heap.place name ≡ Some address
+  pub on : page_of address ≡ page
+
+-- the heap is really full for the pool: nothing is present but what is reached, there are as many pages as may be, an object stands
+-- on each, and on each page of the pool as many as it has slots
+pub record FullAt (s : State) (pool : ℕ) : Type 0 where
+  pub reached : (name : ℕ) → (is_present s name ≡ true) ↔ Reach s name
+  pub limit : length s.heap.pages ≡ s.heap.limit
+  pub used : (page : ℕ) → page < length s.heap.pages → is_used s.heap.place page ≡ true
+  pub filled : (page : ℕ) → pool_at s.heap.pages page ≡ Some pool → CountIs (StandsOn s page) (page_slots pool)

@@ -3,7 +3,7 @@ use Rattle.std.specs.Prelude.{◌≡◌, ◌≢◌, ℕ, ◌^◌, ◌<◌, ◌�
 use Rattle.std.specs.List.{AllPairs, IsDistinct}
 use Rattle.std.specs.Ordering.{nat_cmp}
 use Rattle.std.specs.Set.{is_member}
-use Rattle.std.specs.FinMap.{FinMap, get}
+use Rattle.std.specs.FinMap.{FinMap, get, empty}
 use Rattle.space_model.specs.declared.command.Command.{Command}
 use Rattle.space_model.specs.declared.command.Command.TheVariants.{Set, Push, Store}
 use Rattle.space_model.specs.declared.command.Input.{Input}
@@ -98,6 +98,8 @@ pub record Sound (s : State) : Type 0 where
   pub corpses : SoundCorpses s.graph s.heap.place s.heap.corpses s.heap.pages s.heap.unswept
   pub sweep : SoundSweep s.collector.phase s.heap.pages s.heap.unswept
   pub used : SoundUsed s.collector.phase s.heap.pages s.heap.unswept s.heap.place
+  -- no name has left its address: no command begins a compaction yet
+  pub left : s.heap.left ≡ empty
   pub names : SoundNames s.graph s.roots s.heap.place
   pub items : AreSoundItems s.graph
   pub roots : AreSoundRoots s.roots

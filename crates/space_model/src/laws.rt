@@ -1,5 +1,5 @@
 // Laws of the definitions: functions that do nothing, and promise them.
-ghost use Rattle.space_model.specs.Laws.{ReachHasStarts, ReachIsClosed, ReachIsLeast, ReachIsListed, ReachIsListedOnce, NotingIsDone, NotingStays, OpeningIsSound, LawfulIsSound, LawfulAllIsSound, StartMarkIsSound, TookIsSound, Sweep1IsSound, SweepAllIsSound, SweepAllEnds, SeenAreReached, ReachOutlivesVerdicts, FullLeavesReached, CollectionScansReached, GcLeavesReached, GcIsThere, PushedIsTop, TextsDiffer};
+ghost use Rattle.space_model.specs.Laws.{ReachHasStarts, ReachIsClosed, ReachIsLeast, ReachIsListed, ReachIsListedOnce, NotingIsDone, NotingStays, OpeningIsSound, LawfulIsSound, LawfulAllIsSound, StartMarkIsSound, TookIsSound, Sweep1IsSound, SweepAllIsSound, SweepAllEnds, SeenAreReached, ReachOutlivesVerdicts, FullLeavesReached, CollectionScansReached, GcLeavesReached, GcIsThere, FullIsFullAt, FullMakesNone, PushedIsTop, TextsDiffer};
 
 /// What is reached is the least set that has the starts, and with each name its children.
 pub fn reach_is_least()
@@ -44,6 +44,12 @@ pub fn collections_leave_what_is_reached()
     ensures scans { CollectionScansReached }
     ensures leaves { GcLeavesReached }
     ensures possible { GcIsThere }
+{}
+
+/// `new` answers `full` only where the heap is really full for the object's pool.
+pub fn full_is_full()
+    ensures full { FullIsFullAt }
+    ensures same { FullMakesNone }
 {}
 
 /// The word of a value has that value, on the stack.

@@ -21,9 +21,9 @@ use Rattle.space_engine.specs.declared.counts.Counts.{Counts}
 use Rattle.space_engine.specs.declared.space.StepFault.{StepFault}
 use Rattle.space_engine.specs.Counting.{counts_of}
 use Rattle.space_engine.specs.Stands.{Stands}
-use Rattle.space_engine.specs.Steps.{Steps}
+use Rattle.space_engine.specs.Steps.{AreDone, Steps}
 use Rattle.space_engine.specs.Views.{SpaceView}
-use Rattle.space_engine.proofs.ToldLines.{prefix_after}
+use Rattle.space_collector.proofs.ToldLines.{prefix_after}
 
 -- before the first line
 pub started : (r w : Option (List ℕ)) (limit : ℕ) (view : SpaceView) → Stands view (opening limit) → HasReplayed limit r r w w at_start view
@@ -73,9 +73,9 @@ kept_promise (Ok x) e h = (x, h)
 kept_promise (Err x) e h = cc
 
 -- the next line was given, and its command answered
-pub after_line : (limit : ℕ) (r0 r w0 w w' : Option (List ℕ)) (mid new : Reading) (old_view view : SpaceView) (command : Command) → HasReplayed limit r0 r w0 w mid old_view → Gives mid new →
-    IsReading new.line (Some command) → (result : Result Counts StepFault) → is_err result ≡ false → IfOk result (λ counts. Steps old_view view command (λ outputs. (counts ≡ counts_of outputs) × Appends w w' (text_of outputs))) → HasReplayed limit r0 r w0 w' new view
-after_line limit r0 r w0 w w' mid new old_view view command h gives reading result no_err steps =
+pub after_line : (limit : ℕ) (r0 r w0 w w' : Option (List ℕ)) (mid new : Reading) (old_view view : SpaceView) (command : Command) (ticks ticked : ℕ) → HasReplayed limit r0 r w0 w mid old_view → Gives mid new →
+    IsReading new.line (Some command) → (result : Result Counts StepFault) → is_err result ≡ false → IfOk result (λ counts. Steps old_view view command (AreDone command counts w w' ticks ticked)) → HasReplayed limit r0 r w0 w' new view
+after_line limit r0 r w0 w w' mid new old_view view command ticks ticked h gives reading result no_err steps =
     let step = (kept_promise result no_err steps).1 h.state h.stands in
     record {
       bytes = h.bytes;
@@ -93,7 +93,7 @@ after_line limit r0 r w0 w w' mid new old_view view command h gives reading resu
       stands = step.stands;
       lawful = LawfulAll-more (opening limit) h.state step.state h.commands command h.outputs step.outputs h.lawful step.lawful;
       spelled = AreSpelled-append h.outputs step.outputs h.spelled step.spelled;
-      written = rw text_of-append (Appends-trans w0 w w' _ _ h.written step.so.1);
+      written = rw text_of-append (Appends-trans w0 w w' _ _ h.written step.so.written);
     }
 
 -- the next line was given, and it is blank

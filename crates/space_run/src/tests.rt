@@ -187,17 +187,64 @@ fn words_are_accepted_or_refused(rt: HostRuntime) -> Result<(), Fail> {
 }
 
 #[test]
-fn pages_are_limited(rt: HostRuntime) -> Result<(), Fail> {
+fn full_comes_after_a_collection(rt: HostRuntime) -> Result<(), Fail> {
     let alloc = rt.alloc();
-    let (status, text) = replayed(
-        alloc,
-        &["replay", "--pages", "1"],
-        b"new a 0 P M\nnew b 4 P M\nsame a b\nnew c 3 P M\n",
-        Vec::new(alloc),
-        Vec::new(alloc),
-    )?;
-    assert_eq!(rt; status, 0);
-    assert!(rt; text.as_slice() == b"#1 0x10000\nfull\nerror no root\n#2 0x10028\n".as_slice());
+    // Nothing is gone, so there is no room; a root that is new isn't there after it, and a free slot takes no page.
+    let full: &[u8] = b"new a 0 P M\nnew b 4 P M\nsame a b\nnew c 3 P M\n";
+    let full_text: &[u8] = b"#1 0x10000\n! verdict full 0\nfull\nerror no root\n#2 0x10028\n";
+    // The root holds its old value during the collection, so the page isn't spare until it is dropped; then it serves
+    // another pool.
+    let held: &[u8] = b"new a 0 P M\nnew a 4 P M\nsame a a\npush a\npop\ndrop a\nnew a 4 P M\n";
+    let held_text: &[u8] =
+        b"#1 0x10000\n! verdict full 0\nfull\ntrue\nword 0x10000 names #1\nok\nok\n! gone #1\n! verdict full 1\n#2 0x10000\n";
+    for (trace, wanted) in [(full, full_text), (held, held_text)] {
+        let (status, text) = replayed(
+            alloc,
+            &["replay", "--pages", "1"],
+            trace,
+            Vec::new(alloc),
+            Vec::new(alloc),
+        )?;
+        assert_eq!(rt; status, 0);
+        assert!(rt; text.as_slice() == wanted);
+    }
+    Ok(())
+}
+
+#[test]
+fn a_chain_that_fills_the_heap_goes_at_once(rt: HostRuntime) -> Result<(), Fail> {
+    let alloc = rt.alloc();
+    let mut trace = b"new h 1 P M\n".to_vec(alloc)?;
+    for _ in 1..1638 {
+        trace.extend_from_slice(b"new t 1 P M\nstore t 0 h\nset h t\n")?;
+    }
+    trace.extend_from_slice(b"drop t\nnew x 0 P M\ndrop h\nnew x 0 P M\n")?;
+    let words = words_of(alloc, &["replay", "--pages", "1"])?;
+    let mut source = MemorySource::new(trace, 1 << 16, Vec::new(alloc));
+    let mut sink = MemorySink::new(alloc, 1 << 20, 1 << 16, Vec::new(alloc))?;
+    assert_eq!(rt; run(alloc, &words, &mut source, &mut sink), 0);
+    let text = sink.bytes();
+    assert!(rt; text.ends_with(b"\n! gone #1638\n! verdict full 1638\n#1639 0x10000\n"));
+    // The 1,638 lines before these two, and the answers before them.
+    let end = text.len().saturating_sub(20_250);
+    assert!(rt;
+        text[end..].starts_with(b"\nok\n! verdict full 0\nfull\nok\n! gone #1\n! gone #2\n")
+    );
+    Ok(())
+}
+
+#[test]
+fn memory_is_there_for_these(rt: HostRuntime) -> Result<(), Fail> {
+    let alloc = rt.alloc();
+    let births: &[u8] = b"new a 3 P M\nnew b 3 P M\nnew c 4 P M\n";
+    let births_text: &[u8] = b"#1 0x10000\n#2 0x10028\n#3 0x20000\n";
+    let each: &[u8] = b"new a 1 P M\nset b a\npush a\nraw 0x0\nload c a 0\n";
+    let each_text: &[u8] = b"#1 0x10000\nok\nword 0x10000 names #1\nword 0x0 names -\nnil\n";
+    for (trace, wanted) in [(births, births_text), (each, each_text)] {
+        let (status, text) = replayed(alloc, &["replay"], trace, Vec::new(alloc), Vec::new(alloc))?;
+        assert_eq!(rt; status, 0);
+        assert!(rt; text.as_slice() == wanted);
+    }
     Ok(())
 }
 
@@ -210,8 +257,9 @@ fn the_last_of_all_slots_is_used(rt: HostRuntime) -> Result<(), Fail> {
     }
     let words = words_of(alloc, &["replay"])?;
     let mut source = MemorySource::new(trace, 1 << 16, Vec::new(alloc));
-    let mut sink = MemorySink::new(alloc, 1 << 23, 1 << 16, Vec::new(alloc))?;
+    let mut sink = MemorySink::new(alloc, 1 << 24, 1 << 16, Vec::new(alloc))?;
     assert_eq!(rt; run(alloc, &words, &mut source, &mut sink), 0);
-    assert!(rt; sink.bytes().ends_with(b"\n#419328 0x100ffc8\nfull\n"));
+    let text = sink.bytes();
+    assert!(rt; text.ends_with(b"\n! gone #419327\n! verdict full 419327\n#419329 0x1000000\n"));
     Ok(())
 }

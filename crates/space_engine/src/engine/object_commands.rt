@@ -1,115 +1,23 @@
-// The commands that make, write and compare objects.
-ghost use Rattle.std.specs.Prelude.{◌≡◌, ◌≤◌, ◌<◌, ◌+◌, ◌^◌, true, length, if◌then◌else◌, None, Err, IfOk, OnOk, OnErr, IsSome, IsTrue};
-ghost use Rattle.space_model.specs.declared.command.Command.TheVariants.{New, Store};
+// The commands that write and compare objects.
+ghost use Rattle.std.specs.Prelude.{◌≡◌, ◌<◌, true, length, IfOk};
+ghost use Rattle.space_model.specs.declared.command.Command.TheVariants.{Store};
 ghost use Rattle.space_model.specs.Answers.{written_field, same_reply};
-ghost use Rattle.space_model.specs.Layout.{pool_for as pool_of_fields};
 ghost use Rattle.space_model.specs.Operands.{operand_value, input_value};
 ghost use Rattle.space_model.specs.Refusals.{both as both_results};
 ghost use Rattle.space_model.specs.Sound.{IsSmallInput};
 ghost use Rattle.space_model.specs.State.{State};
-ghost use Rattle.space_roots.specs.WordRoots.{root_word};
 ghost use Rattle.space_heap.specs.Objects.{stands, object_of};
-ghost use Rattle.space_engine.specs.Births.{IsBirth, IsRootedBirth, LacksRoom};
 ghost use Rattle.space_engine.specs.Stands.{Holds};
 ghost use Rattle.space_engine.specs.Steps.{Answers};
-ghost use Rattle.space_engine.specs.Tidy.{GoesOn};
-ghost use Rattle.space_engine.specs.Views.{with_field, with_heap, with_root_dropped, with_root_reserved, with_root_written};
+ghost use Rattle.space_engine.specs.Turns.{GoesOn};
+ghost use Rattle.space_engine.specs.Views.{with_field};
 ghost use Rattle.space_engine.specs.Words.{written_words};
 
 use super::Engine;
-use crate::births::{Unborn, bear};
 use crate::operands::{both, is_same};
-use space_heap::Made;
-use space_model::{Guard, Ident, Input, MOST_FIELDS, Operand, Refusal, Reply, Style, pool_for};
-use std::alloc::AllocError as NoMemory;
+use space_model::{Input, Operand, Refusal, Reply};
 
 impl Engine {
-    // Makes a place for the root, which tells whether it is new. An `Err` changes nothing.
-    fn reserve_root(&mut self, root: &Ident) -> Result<bool, NoMemory>
-        ensures ok { IfOk result (λ added. self.new ≡ with_root_reserved self.old root.now added) }
-        ensures there { OnOk result (IsSome (root_word self.new.roots root.now)) }
-        ensures absent { IfOk result (λ added. IsTrue added → root_word self.old.roots root.now ≡ None) }
-        ensures err { OnErr result (self.new ≡ self.old) }
-    {
-        self.roots.reserve_for(*root)
-    }
-
-    // Takes the place of a new root away again.
-    fn free_root(&mut self, root: &Ident, is_new: bool)
-        ensures { self.new ≡ (if is_new then with_root_dropped self.old root.now else self.old) }
-    {
-        if is_new {
-            self.roots.drop_root(*root);
-        }
-    }
-
-    // The root that is there holds the word.
-    fn hold(&mut self, root: &Ident, word: u64)
-        requires { IsSome (root_word self.old.roots root.now) }
-        ensures { self.new ≡ with_root_written self.old root.now word }
-    {
-        if self.roots.set(*root, word).is_err() {
-            unreachable!();
-        }
-    }
-
-    // Adds an object, which no root holds yet. An `Err` changes nothing.
-    fn bear(&mut self, fields: u64, guard: Guard, style: Style) -> Result<Made, Unborn>
-        requires few { fields ≤ MOST_FIELDS }
-        requires names { self.old.heap.counters.born < 2 ^ 62 }
-        ensures born { IfOk result (λ made. IsBirth self.old.heap self.new.heap fields guard style made.name made.address) }
-        ensures rest { self.new ≡ with_heap self.old self.new.heap }
-        ensures full { result ≡ Err Unborn.Full → LacksRoom self.old.heap (pool_of_fields fields) }
-        ensures failed { OnErr result (self.new ≡ self.old) }
-    {
-        bear(&mut self.heap, fields, guard, style)
-    }
-
-    // Adds an object, and the root holds it. An `Err` changes nothing.
-    fn add(&mut self, root: &Ident, fields: u64, guard: Guard, style: Style) -> Result<Made, Unborn>
-        requires few { fields ≤ MOST_FIELDS }
-        requires names { self.old.heap.counters.born < 2 ^ 62 }
-        ensures born { IfOk result (λ made. IsRootedBirth self.old self.new root.now fields guard style made.name made.address) }
-        ensures full { result ≡ Err Unborn.Full → LacksRoom self.old.heap (pool_of_fields fields) }
-        ensures failed { OnErr result (self.new ≡ self.old) }
-    {
-        let is_new = match self.reserve_root(root) {
-            Ok(is_new) => is_new,
-            Err(_) => return Err(Unborn::NoMemory),
-        };
-        match self.bear(fields, guard, style) {
-            Ok(made) => {
-                self.hold(root, made.address);
-                Ok(made)
-            }
-            Err(why) => {
-                self.free_root(root, is_new);
-                Err(why)
-            }
-        }
-    }
-
-    /// Makes an object, and the root holds it.
-    pub fn create(&mut self, root: &Ident, fields: u64, guard: Guard, style: Style) -> Reply
-        requires { self.old.heap.counters.born < 2 ^ 62 }
-        ensures answers { (s : State) → Holds self.old s → Answers s self.new (New root.now fields guard style) result }
-        ensures goes_on { GoesOn self.old.heap self.new.heap }
-    {
-        let Some(_) = pool_for(fields) else {
-            return Reply::Refused {
-                why: Refusal::TooLarge,
-            };
-        };
-        match self.add(root, fields, guard, style) {
-            Ok(made) => Reply::Made {
-                name: made.name,
-                address: made.address,
-            },
-            Err(Unborn::Full) => Reply::Full,
-            Err(Unborn::NoMemory) => Reply::NoMemory,
-        }
-    }
-
     // The address of the object whose field a store writes, and the word that it gets.
     fn write_place(
         &self,

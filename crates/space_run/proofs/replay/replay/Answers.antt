@@ -80,7 +80,7 @@ each_line-preserved g c =
     let reading = rw c.in-Some.is at c.in-Ok.ensures.found in
     let no_err = sym c.is_err.ensures.value ∙ c.if-is_err.false in
     record {
-      done = after_line c.args.space.parts.heap.limit _ _ _ _ _ next.mid _ _ _ c.in-Some.command (after_taking c.args.space.parts.heap.limit _ _ _ _ _ _ _ _ c.each_line.invariant.done next.takes) line.gives (rw line.bytes at reading) c.step.result no_err c.step.ensures.done;
+      done = after_line c.args.space.parts.heap.limit _ _ _ _ _ next.mid _ _ _ c.in-Some.command _ _ (after_taking c.args.space.parts.heap.limit _ _ _ _ _ _ _ _ c.each_line.invariant.done next.takes) line.gives (rw line.bytes at reading) c.step.result no_err c.step.ensures.done;
       counted = line.counted;
       numbered = line.number;
       able = c.step.ensures.spent ∙ no_err;

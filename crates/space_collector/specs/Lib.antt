@@ -1,0 +1,5 @@
+pub mod Births
+pub mod GoneNames
+pub mod AllSwept
+pub mod Tidy
+pub mod HeapCollections

@@ -1,0 +1,25 @@
+-- What holds of a space's heap between commands, and how far one command changes its counts.
+use Rattle.std.specs.Prelude.{ℕ, ◌+◌, ◌*◌, ◌^◌, ◌≤◌, ◌<◌}
+use Rattle.space_heap.specs.HeapView.{HeapView}
+use Rattle.space_collector.specs.Tidy.{IsTidy, CanCollect, most_slots}
+
+-- one more command can be answered, whatever it is
+pub record CanAnswer (heap : HeapView) : Type 0 where
+  pub collect : CanCollect heap
+  pub born : heap.counters.born < 2 ^ 62
+
+-- one command was answered: it made one object at most, did one verdict of a kind at most, and left the heap tidy
+pub record GoesOn (old new : HeapView) : Type 0 where
+  pub born : new.counters.born ≤ old.counters.born + 1
+  pub minor_verdicts : new.counters.minor_verdicts ≤ old.counters.minor_verdicts + 1
+  pub other_verdicts : new.counters.other_verdicts ≤ old.counters.other_verdicts + 1
+  pub freed : new.counters.freed ≤ old.counters.freed + most_slots
+  pub tidy : IsTidy old → IsTidy new
+
+-- after so many commands
+pub record IsWithinTurns (heap : HeapView) (turns : ℕ) : Type 0 where
+  pub tidy : IsTidy heap
+  pub born : heap.counters.born ≤ turns
+  pub minor_verdicts : heap.counters.minor_verdicts ≤ turns
+  pub other_verdicts : heap.counters.other_verdicts ≤ turns
+  pub freed : heap.counters.freed ≤ turns * most_slots

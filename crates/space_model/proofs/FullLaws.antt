@@ -1,0 +1,158 @@
+-- Where `new` answers `full`, the heap is really full for the pool of the object.
+use Rattle.std.proofs.Common.{◌≡◌, ◌≢◌, ◌⊎◌, ℕ, zero, suc, ◌/◌, ◌*◌, ◌+◌, ◌<◌, true, List, [], ◌∷◌, length, nat_eq, refl, sym, ap, ◌∙◌, subst, arith, Option, None, Some, ⊎_elim, inl, inr}
+use Rattle.std.specs.Prelude.{is_some, ◌^◌}
+use Rattle.std.specs.List.{IsDistinct}
+use Rattle.std.specs.Set.{is_member}
+use Rattle.std.specs.Ordering.{nat_cmp}
+use Rattle.std.specs.FinMap.{FinMap, get, keys, get-empty}
+use Rattle.std.proofs.Math.Nat.{add_left_cancel, mul-div_cancel_left}
+use Rattle.std.proofs.lemmas.Bool.{false≢true, false_from_ne_true, or_cases, or_left, or_right, eqb-true, eq-eqb, cases_eq}
+use Rattle.std.proofs.lemmas.Nat.{pow_pos}
+use Rattle.space_model.specs.declared.event.Event.{Event}
+use Rattle.space_model.specs.declared.phase.Phase.TheVariants.{Idle}
+use Rattle.space_model.specs.Counts.{CountIs}
+use Rattle.space_model.specs.Layout.{slot_address, slot_bytes, page_slots, page_of, pool_for}
+use Rattle.space_model.specs.New.{MakesNone}
+use Rattle.space_model.specs.Pages.{pool_at, is_used}
+use Rattle.space_model.specs.Places.{IsPoolFull, HasNoSpare, StandsOn, FullAt}
+use Rattle.space_model.specs.Sound.{Sound, pool_of}
+use Rattle.space_model.specs.State.{State}
+use Rattle.space_model.proofs.Growing.{IsDistinct-cons}
+use Rattle.space_model.proofs.PageLaws.{page_of-slot_address}
+use Rattle.space_model.proofs.ReachedLaws.{member-keys}
+use Rattle.space_model.proofs.SweepKept.{no_corpse}
+use Rattle.space_model.proofs.WholeLaws.{Sound-collects_all, counted_also, collects_leaves, collects_reach, collects_idle, collects_none_waits}
+
+-- slots up to a number, where each has a name of its own: the names at them are as many
+module _ (IsAt : ℕ → ℕ → Type 0) (one_slot : (i j n : ℕ) → IsAt i n → IsAt j n → i ≡ j) (one_name : (i m n : ℕ) → IsAt i m → IsAt i n → m ≡ n) where
+  abbrev IsAtSome : ℕ → ℕ → Type 0
+  IsAtSome count name = (slot : ℕ) × (slot < count) × IsAt slot name
+
+  count_slots : (count : ℕ) → ((slot : ℕ) → slot < count → (n : ℕ) × IsAt slot n) → CountIs (IsAtSome count) count
+  unfolding IsDistinct
+  count_slots zero full = record {
+    names = [];
+    once = tt;
+    are = λ n. ((λ m. absurd (false≢true m)), (λ c. absurd (let b = c.1 in omega arith)));
+    long = refl;
+  }
+  count_slots (suc count) full =
+      let rest = count_slots count (λ slot on. full slot (omega arith)) in
+      let last = full count (omega arith) in
+      record {
+        names = last.0 ∷ rest.names;
+        once = IsDistinct-cons last.0 rest.names rest.once
+            (false_from_ne_true _ (λ m. let c = (rest.are last.0).0 m in let e = one_slot c.0 count last.0 c.2 last.1 in let b = c.1 in omega arith));
+        are = λ n. (
+          (λ m. ⊎_elim
+              (λ same. (count, omega arith, subst (IsAt count) (sym (eqb-true n last.0 same)) last.1))
+              (λ among. let c = (rest.are n).0 among in (c.0, (let b = c.1 in omega arith), c.2))
+              (or_cases _ _ m)),
+          (λ c. ⊎_elim
+              (λ same. or_left _ _ (eq-eqb n last.0 (one_name count n last.0 (subst (λ i. IsAt i n) same c.2) last.1)))
+              (λ other. or_right (nat_eq n last.0) _ ((rest.are n).1 (c.0, (let b = c.1 in omega arith), c.2)))
+              (cases_eq c.0 count)),
+        );
+        long = ap suc rest.long;
+      }
+
+same_address : (o : Option ℕ) (address : ℕ) → (o ≡ Some address) ⊎ (o ≢ Some address)
+same_address None address = inr (λ e. cc)
+same_address (Some a) address = ⊎_elim (λ e. inl (ap Some e)) (λ d. inr (λ e. d (cc))) (cases_eq a address)
+
+standing_among : (place : FinMap nat_cmp ℕ) (address : ℕ) (names : List ℕ) → ((n : ℕ) × (get place n ≡ Some address)) ⊎ ((n : ℕ) → is_member nat_eq names n ≡ true → get place n ≢ Some address)
+standing_among place address [] = inr (λ n m e. false≢true m)
+standing_among place address (name ∷ names) = ⊎_elim
+    (λ e. inl (name, e))
+    (λ d. ⊎_elim
+    (λ f. inl f)
+    (λ none. inr (λ n m e. ⊎_elim (λ same. d (ap (get place) (sym (eqb-true n name same)) ∙ e)) (λ among. none n among e) (or_cases _ _ m)))
+    (standing_among place address names))
+    (same_address (get place name) address)
+
+-- some name stands at an address, or none
+standing : (place : FinMap nat_cmp ℕ) (address : ℕ) → ((n : ℕ) × (get place n ≡ Some address)) ⊎ ((n : ℕ) → get place n ≢ Some address)
+standing place address = ⊎_elim
+    (λ f. inl f)
+    (λ none. inr (λ n e. none n (member-keys place n ∙ ap is_some e) e))
+    (standing_among place address (keys place))
+
+-- different slots of a page have different addresses
+slot_address-once : (page pool i j : ℕ) → slot_address page pool i ≡ slot_address page pool j → i ≡ j
+unfolding slot_address slot_bytes
+slot_address-once page pool i j e =
+    let some : 0 < 40 * 2 ^ pool = (let p = pow_pos pool in omega arith) in
+    let f : 40 * 2 ^ pool * i ≡ 40 * 2 ^ pool * j = add_left_cancel (65536 * (page + 1)) e in
+    sym (mul-div_cancel_left i some) ∙ ap (λ x. x / (40 * 2 ^ pool)) f ∙ mul-div_cancel_left j some
+
+-- a sound state in which nothing is under way, and no address is free for the pool
+module _ (t : State) (pool : ℕ) (h : Sound t) (none_waits : t.heap.unswept ≡ []) (idle : t.collector.phase ≡ Idle) (none_free : IsPoolFull t pool) where
+  nothing_left : (n a : ℕ) → get t.heap.left n ≡ Some a → ⊥
+  nothing_left n a e = let f : None ≡ Some a = sym (get-empty nat_cmp n) ∙ ap (λ left. get left n) (sym h.left) ∙ e in cc
+
+  slot_filled : (page slot : ℕ) → pool_at t.heap.pages page ≡ Some pool → slot < page_slots pool → (n : ℕ) × (get t.heap.place n ≡ Some (slot_address page pool slot))
+  slot_filled page slot has on = ⊎_elim
+      (λ f. f)
+      (λ none. absurd (none_free (slot_address page pool slot) (record {
+        at = record { page = page; slot = slot; has_pool = has; on_page = on; is = refl };
+        swept = ap (λ pages. is_member nat_eq pages (page_of (slot_address page pool slot))) none_waits;
+        no_place = none;
+        no_corpse = λ n e. no_corpse t.graph t.heap.place t.heap.corpses t.collector.phase t.heap.pages t.heap.unswept h.corpses h.sweep (λ p. cc) n (slot_address page pool slot) e;
+        not_left = λ n e. nothing_left n (slot_address page pool slot) e;
+      })))
+      (standing t.heap.place (slot_address page pool slot))
+
+  -- what stands on a page of the pool is at one of its slots
+  at_slot : (page n : ℕ) → pool_at t.heap.pages page ≡ Some pool → StandsOn t page n → (slot : ℕ) × (slot < page_slots pool) × (get t.heap.place n ≡ Some (slot_address page pool slot))
+  at_slot page n has stands =
+      let slot = h.layout.placed.at n stands.address stands.at in
+      let on : slot.page ≡ page = sym (ap page_of slot.is ∙ page_of-slot_address slot.page (pool_of t.graph n) slot.slot slot.on_page) ∙ stands.on in
+      let both : Some (pool_of t.graph n) ≡ Some pool = sym slot.has_pool ∙ ap (pool_at t.heap.pages) on ∙ has in
+      let same : pool_of t.graph n ≡ pool = cc in
+      let is : stands.address ≡ slot_address page pool slot.slot = slot.is ∙ ap (λ p. slot_address p (pool_of t.graph n) slot.slot) on ∙ ap (λ q. slot_address page q slot.slot) same in
+      (slot.slot, subst (λ q. slot.slot < page_slots q) same slot.on_page, stands.at ∙ ap Some is)
+
+  -- as many objects stand on each page of the pool as it has slots
+  page_filled : (page : ℕ) → pool_at t.heap.pages page ≡ Some pool → CountIs (StandsOn t page) (page_slots pool)
+  page_filled page has =
+      counted_also
+      (λ n. (slot : ℕ) × (slot < page_slots pool) × (get t.heap.place n ≡ Some (slot_address page pool slot)))
+      (StandsOn t page)
+      (page_slots pool)
+      (λ n. (
+        (λ c. record { address = slot_address page pool c.0; at = c.2; on = page_of-slot_address page pool c.0 c.1 }),
+        (λ stands. at_slot page n has stands),
+      ))
+      (count_slots
+      (λ slot n. get t.heap.place n ≡ Some (slot_address page pool slot))
+      (λ i j n e f. slot_address-once page pool i j (let both : Some (slot_address page pool i) ≡ Some (slot_address page pool j) = sym e ∙ f in cc))
+      (λ i m n e f. h.layout.placed.once m n (slot_address page pool i) e f)
+      (page_slots pool)
+      (λ slot on. slot_filled page slot has on))
+
+  -- and some object on each page, where none is spare
+  page_used : HasNoSpare t → (page : ℕ) → page < length t.heap.pages → is_used t.heap.place page ≡ true
+  page_used none_spare page below =
+      h.used (λ p. cc) (λ p. cc) page
+      (has_pool (pool_at t.heap.pages page) refl)
+      (ap (λ pages. is_member nat_eq pages page) none_waits)
+    where
+      has_pool : (o : Option ℕ) → pool_at t.heap.pages page ≡ o → is_some (pool_at t.heap.pages page) ≡ true
+      has_pool None e = absurd (none_spare page (below, e))
+      has_pool (Some q) e = ap is_some e
+
+-- so the answer `full` tells the truth
+pub full_is_full : (s t : State) (fields : ℕ) (events : List Event) → MakesNone s fields events t → Sound s → FullAt t (pool_for fields)
+full_is_full s t fields events e h =
+    let c = e.collected in
+    let sound = Sound-collects_all s t events c.scans c.collects h in
+    let idle = collects_idle s t events c.scans c.collects in
+    let none_waits = collects_none_waits s t events c.scans c.collects in
+    record {
+      reached = λ n. let there = collects_leaves s t events c.scans c.collects h n in
+          let same = collects_reach s t events c.scans c.collects n in
+          ((λ p. same.1 (there.0 p)), (λ r. there.1 (same.0 r)));
+      limit = e.limit.limit;
+      used = page_used t (pool_for fields) sound none_waits idle e.limit.none_free e.limit.none_spare;
+      filled = page_filled t (pool_for fields) sound none_waits idle e.limit.none_free;
+    }
