@@ -13,7 +13,7 @@ SpellingsAreRead = (command : Command) → IsWritable command → IsSpelled (com
 abbrev pub SpellingsDiffer : Type 0
 SpellingsDiffer = (a b : Command) → IsWritable a → IsSpelled (command_pieces a) → IsWritable b → IsSpelled (command_pieces b) → command_text a ≡ command_text b → a ≡ b
 
--- a line is at most one command
+-- a line has at most one reading: it is blank, or it is one command
 abbrev pub ReadingsAreOne : Type 0
 ReadingsAreOne = (line : List ℕ) (a b : Option Command) → IsReading line a → IsReading line b → a ≡ b
 

@@ -2,7 +2,7 @@
 ghost use Rattle.std.specs.Prelude.{◌≡◌, ◌≤◌, ◌<◌, ◌+◌, ◌++◌, [], ◌∷◌, length};
 ghost use Rattle.arrayvec.specs.ArrayVec.{array_vec_len};
 ghost use Rattle.space_model.specs.Spelling.{text_of_pieces, IsSpelled};
-ghost use Rattle.space_model.specs.Texts.{kind_text, event_pieces, value_pieces, refusal_text, truth_text, named_pieces, reply_pieces};
+ghost use Rattle.space_model.specs.Texts.{kind_text, event_pieces, value_pieces, refusal_text, truth_text, named_pieces, reply_pieces, malformed_pieces};
 
 use crate::line::{Line, put, put_decimal, put_hex};
 use space_model::{Event, Kind, Refusal, Reply, Value};
@@ -124,4 +124,15 @@ pub fn put_reply(line: &mut Line, reply: Reply)
         }
         Reply::Refused { why } => put(line, refusal_bytes(why)),
     }
+}
+
+/// Puts the line that tells of a malformed or too long one into an empty one.
+pub fn put_malformed(line: &mut Line, number: u64)
+    requires { line.old.items ≡ [] }
+    ensures items { line.new.items ≡ text_of_pieces (malformed_pieces number) }
+    ensures len { array_vec_len line.new < 256 }
+{
+    put(line, b"line ");
+    put_decimal(line, number);
+    put(line, b": malformed");
 }

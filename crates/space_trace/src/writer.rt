@@ -1,16 +1,16 @@
 // Writes the lines of a trace. Each goes to the sink as one piece.
-ghost use Rattle.std.specs.Prelude.{◌<◌, [], ◌∷◌, ◌++◌, OnOk};
+ghost use Rattle.std.specs.Prelude.{◌<◌, [], ◌∷◌, ◌++◌, OnOk, OnErr};
 ghost use Rattle.arrayvec.specs.ArrayVec.{array_vec_len};
 ghost use Rattle.std.specs.Io.KnownBytes.{Appends};
 ghost use Rattle.space_io.specs.Causes.{HasCause};
-ghost use Rattle.space_io.specs.Sinks.{AppendsPrefix};
+ghost use Rattle.space_io.specs.Sinks.{AppendsPrefix, AppendsPart};
 ghost use Rattle.space_model.specs.CommandTexts.{command_pieces};
 ghost use Rattle.space_model.specs.Spelling.{IsSpelled};
 ghost use Rattle.space_model.specs.Texts.{event_pieces, malformed_pieces, reply_pieces, line_of_pieces};
 
 use crate::commands::put_command;
-use crate::line::{Line, put, put_decimal};
-use crate::outputs::{put_event, put_reply};
+use crate::line::Line;
+use crate::outputs::{put_event, put_malformed, put_reply};
 use space_io::{Sink, WriteFault, write_all};
 use space_model::{Command, Event, Reply};
 
@@ -21,18 +21,20 @@ fn write_line<K: Sink>(line: &mut Line, sink: &mut K) -> Result<(), WriteFault>
     requires { array_vec_len line.old < 256 }
     ensures bytes { OnOk result (Appends (K.written sink.old) (K.written sink.new) (line.old.items ++ 10 ∷ [])) }
     ensures prefix { AppendsPrefix (K.written sink.old) (K.written sink.new) (line.old.items ++ 10 ∷ []) }
+    ensures part { OnErr result (AppendsPart (K.written sink.old) (K.written sink.new) (line.old.items ++ 10 ∷ [])) }
     ensures cause { HasCause (K.faults sink.old) (K.faults sink.new) result }
 {
     line.push(LF);
     write_all(sink, line.as_slice())
 }
 
-/// Writes the line of the command. At an `Err` a prefix of it was written.
+/// Writes the line of the command. At an `Err` only a part of it, from its front, was written.
 ///
 /// A command that no line spells is written too; no clause says how its line is read.
 pub fn write_command<K: Sink>(command: &Command, sink: &mut K) -> Result<(), WriteFault>
     ensures bytes { OnOk result (Appends (K.written sink.old) (K.written sink.new) (line_of_pieces (command_pieces command.now))) }
     ensures prefix { AppendsPrefix (K.written sink.old) (K.written sink.new) (line_of_pieces (command_pieces command.now)) }
+    ensures part { OnErr result (AppendsPart (K.written sink.old) (K.written sink.new) (line_of_pieces (command_pieces command.now))) }
     ensures cause { HasCause (K.faults sink.old) (K.faults sink.new) result }
     ensures spelled { IsSpelled (command_pieces command.now) }
 {
@@ -41,10 +43,11 @@ pub fn write_command<K: Sink>(command: &Command, sink: &mut K) -> Result<(), Wri
     write_line(&mut line, sink)
 }
 
-/// Writes the line of the event. At an `Err` a prefix of it was written.
+/// Writes the line of the event. At an `Err` only a part of it, from its front, was written.
 pub fn write_event<K: Sink>(event: &Event, sink: &mut K) -> Result<(), WriteFault>
     ensures bytes { OnOk result (Appends (K.written sink.old) (K.written sink.new) (line_of_pieces (event_pieces event.now))) }
     ensures prefix { AppendsPrefix (K.written sink.old) (K.written sink.new) (line_of_pieces (event_pieces event.now)) }
+    ensures part { OnErr result (AppendsPart (K.written sink.old) (K.written sink.new) (line_of_pieces (event_pieces event.now))) }
     ensures cause { HasCause (K.faults sink.old) (K.faults sink.new) result }
     ensures spelled { IsSpelled (event_pieces event.now) }
 {
@@ -53,10 +56,11 @@ pub fn write_event<K: Sink>(event: &Event, sink: &mut K) -> Result<(), WriteFaul
     write_line(&mut line, sink)
 }
 
-/// Writes the line of the reply. At an `Err` a prefix of it was written.
+/// Writes the line of the reply. At an `Err` only a part of it, from its front, was written.
 pub fn write_reply<K: Sink>(reply: &Reply, sink: &mut K) -> Result<(), WriteFault>
     ensures bytes { OnOk result (Appends (K.written sink.old) (K.written sink.new) (line_of_pieces (reply_pieces reply.now))) }
     ensures prefix { AppendsPrefix (K.written sink.old) (K.written sink.new) (line_of_pieces (reply_pieces reply.now)) }
+    ensures part { OnErr result (AppendsPart (K.written sink.old) (K.written sink.new) (line_of_pieces (reply_pieces reply.now))) }
     ensures cause { HasCause (K.faults sink.old) (K.faults sink.new) result }
     ensures spelled { IsSpelled (reply_pieces reply.now) }
 {
@@ -65,15 +69,14 @@ pub fn write_reply<K: Sink>(reply: &Reply, sink: &mut K) -> Result<(), WriteFaul
     write_line(&mut line, sink)
 }
 
-/// Writes that the line with this number is malformed or too long. At an `Err` a prefix of it was written.
+/// Writes that the line with this number is malformed or too long. At an `Err` only a part of it, from its front, was written.
 pub fn write_malformed<K: Sink>(number: u64, sink: &mut K) -> Result<(), WriteFault>
     ensures bytes { OnOk result (Appends (K.written sink.old) (K.written sink.new) (line_of_pieces (malformed_pieces number))) }
     ensures prefix { AppendsPrefix (K.written sink.old) (K.written sink.new) (line_of_pieces (malformed_pieces number)) }
+    ensures part { OnErr result (AppendsPart (K.written sink.old) (K.written sink.new) (line_of_pieces (malformed_pieces number))) }
     ensures cause { HasCause (K.faults sink.old) (K.faults sink.new) result }
 {
     let mut line = Line::new();
-    put(&mut line, b"line ");
-    put_decimal(&mut line, number);
-    put(&mut line, b": malformed");
+    put_malformed(&mut line, number);
     write_line(&mut line, sink)
 }
