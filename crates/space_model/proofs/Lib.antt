@@ -24,6 +24,7 @@ pub mod VerdictLaws
 pub mod SweptLaws
 pub mod WholeLaws
 pub mod FullLaws
+pub mod ReachedStay
 pub mod SoundKept
 pub mod Cutting
 pub mod Apart

@@ -1,6 +1,6 @@
 -- The word of a value, and the value of a word.
 use Rattle.std.proofs.Common.{◌≡◌, ℕ, ◌+◌, ◌*◌, ◌/◌, ◌%◌, ◌^◌, ◌<◌, ◌==◌, ◌&&◌, nat_lt, true, false, List, [], ◌∷◌, ◌++◌, reverse, nat_eq, refl, ap, ◌∙◌, arith, Option, None, Some, Result, Ok, Err, ⊎_elim}
-use Rattle.std.specs.Prelude.{slice_get}
+use Rattle.std.specs.Prelude.{◌↔◌, slice_get}
 use Rattle.std.specs.Option.{ok_or, unwrap_or}
 use Rattle.std.specs.Set.{is_member}
 use Rattle.std.specs.Ordering.{nat_cmp}
@@ -19,6 +19,7 @@ use Rattle.space_model.specs.declared.value.Value.TheVariants.{Nil, Small, Name}
 use Rattle.space_model.specs.Graph.{Item}
 use Rattle.space_model.specs.Layout.{slot_address, slot_bytes}
 use Rattle.space_model.specs.Operands.{named_by, value_word, word_value, word_value_in, operand_value, input_value}
+use Rattle.space_model.specs.Reach.{Named}
 use Rattle.space_model.specs.Reached.{names_at}
 use Rattle.space_model.specs.Sound.{Sound, AreSlots, IsSmall, IsSmallInput, pool_of}
 use Rattle.space_model.specs.StackAnswers.{Raws, PushReply, Pushes}
@@ -26,7 +27,7 @@ use Rattle.space_model.specs.State.{State}
 use Rattle.space_model.specs.Words.{small_number_word}
 use Rattle.space_model.proofs.MapLaws.{some_get}
 use Rattle.space_model.proofs.ReachedLaws.{member-names_at}
-use Rattle.space_model.proofs.ValuesHold.{input_holds}
+use Rattle.space_model.proofs.ValuesHold.{input_holds, first_member}
 use Rattle.space_model.proofs.ValuesKept.{IsPresentValue, name_present, present_kept, small_kept}
 
 -- addresses are even, and none is 0
@@ -59,6 +60,13 @@ pub named_by-place : (graph : List Item) (pages : List (Option ℕ)) (place : Fi
 named_by-place graph pages place name word slots e =
     first_name (names_at place word) name ((member-names_at place word name).1 e)
     (λ n m. slots.once n name word ((member-names_at place word n).0 m) e)
+
+-- and the name that a word names has the word as its address
+pub named_is_told : (s : State) (word name : ℕ) → Sound s → (named_by s.heap.place word ≡ Some name) ↔ Named s word name
+named_is_told s word name h = (
+  (λ e. (member-names_at s.heap.place word name).0 (first_member (names_at s.heap.place word) name e)),
+  (λ e. named_by-place s.graph s.heap.pages s.heap.place name word h.layout.placed e),
+)
 
 -- a word that is the address of no name names none
 pub named_by-none : (place : FinMap nat_cmp ℕ) (word : ℕ) → ((name : ℕ) → get place name ≡ Some word → ⊥) → named_by place word ≡ None

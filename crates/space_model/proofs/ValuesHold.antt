@@ -34,7 +34,7 @@ from_option : (found : Option Value) (why : Refusal) (value : Value) → ok_or f
 from_option None why value e = absurd (ok_err value why e)
 from_option (Some x) why value e = ap Some (ok_same x value e)
 
-first_member : (names : List ℕ) (name : ℕ) → slice_get names 0 ≡ Some name → is_member nat_eq names name ≡ true
+pub first_member : (names : List ℕ) (name : ℕ) → slice_get names 0 ≡ Some name → is_member nat_eq names name ≡ true
 first_member [] name e = absurd (cc)
 first_member (n ∷ names) name e = or_left _ _ (eq-eqb name n (sym (let f : n ≡ name = cc in f)))
 

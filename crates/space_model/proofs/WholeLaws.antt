@@ -1,10 +1,10 @@
 -- A whole collection keeps states sound, and what the state is like after `gc`.
-use Rattle.std.proofs.Common.{◌≡◌, ◌&&◌, not, nat_eq, ℕ, true, false, Some, List, [], ◌∷◌, length, refl, sym, ap, ◌∙◌, subst}
+use Rattle.std.proofs.Common.{◌≡◌, ◌&&◌, not, nat_eq, ℕ, true, false, None, Some, List, [], ◌∷◌, length, refl, sym, ap, ◌∙◌, subst}
 use Rattle.std.specs.Prelude.{is_some, ◌↔◌}
 use Rattle.std.specs.List.{filter}
 use Rattle.std.specs.Set.{is_member}
 use Rattle.std.specs.FinMap.{get, keys}
-use Rattle.std.proofs.lemmas.Bool.{and_parts, and_from, not-true, false≢true, false_from_ne_true}
+use Rattle.std.proofs.lemmas.Bool.{and_parts, and_from, not-true, false≢true, false_from_ne_true, cond-false}
 use Rattle.space_model.specs.declared.event.Event.{Event}
 use Rattle.space_model.specs.declared.event.Kind.TheVariants.{Full}
 use Rattle.space_model.specs.declared.phase.Phase.{Phase}
@@ -14,7 +14,7 @@ use Rattle.space_model.specs.declared.reply.Reply.TheVariants.{Scanned}
 use Rattle.space_model.specs.Collections.{mark_started, StartMark, sweep_phase, took, SweepAll}
 use Rattle.space_model.specs.Completions.{CompletesIn, Completes}
 use Rattle.space_model.specs.Counts.{CountIs}
-use Rattle.space_model.specs.Maps.{address_in}
+use Rattle.space_model.specs.Maps.{address_in, without}
 use Rattle.space_model.specs.Moments.{noted}
 use Rattle.space_model.specs.Reach.{Reach}
 use Rattle.space_model.specs.Reached.{reached_names}
@@ -25,7 +25,7 @@ use Rattle.space_model.specs.WholeCollections.{verdict_events, IsCollection, Col
 use Rattle.space_model.proofs.CollectionsKept.{Sound-start, Sound-mark_started, Sound-took, Sound-swept_all}
 use Rattle.space_model.proofs.CorpseNames.{freed_pages, swept_pages, SweepAll-there}
 use Rattle.space_model.proofs.SweptLaws.{IsCollected, collected, SweepAll-swept}
-use Rattle.space_model.proofs.MapLaws.{present_at}
+use Rattle.space_model.proofs.MapLaws.{present_at, get-without}
 use Rattle.space_model.proofs.Members.{member_filter}
 use Rattle.space_model.proofs.ReachedLaws.{member-keys, member-reached_names}
 use Rattle.space_model.proofs.RisingNames.{rising_names, IsRising-rising_names, member-rising_names}
@@ -177,6 +177,21 @@ collects_idle s t events scans c =
 
 pub collects_none_waits : (s t : State) (events : List Event) (scans : ℕ) → CollectsAll s events scans t → t.heap.unswept ≡ []
 collects_none_waits s t events scans c = (SweepAll-swept c.unswept t c.freed c.sweeps).none_waits
+
+-- what was reached before it stays where it stood
+pub collects_place : (s t : State) (events : List Event) (scans : ℕ) → CollectsAll s events scans t → (n : ℕ) → Reach s n → get t.heap.place n ≡ get s.heap.place n
+collects_place s t events scans c n r =
+    let k = c.collects in
+    let idle : k.idle.heap.place ≡ s.heap.place = (completion_same s.collector.phase s k.idle k.completion k.completes).place in
+    let marked : k.marked.heap.place ≡ k.idle.heap.place = ap (λ (u : State). u.heap.place) k.starts in
+    let left : c.unswept.heap.place ≡ without k.marked.heap.place k.taken = ap (λ (u : State). u.heap.place) k.takes in
+    let swept : t.heap.place ≡ c.unswept.heap.place = (SweepAll-swept c.unswept t c.freed c.sweeps).place in
+    let reached : Reach k.marked n = (marked_reach k.idle k.marked k.starts n).1 ((completed_reach s k.idle k.completion k.completes n).1 r) in
+    let stays : is_member nat_eq k.taken n ≡ false = false_from_ne_true _ (λ m. k.verdict.unreached n m reached) in
+    ap (λ place. get place n) (swept ∙ left)
+    ∙ get-without k.marked.heap.place k.taken n
+    ∙ cond-false (is_member nat_eq k.taken n) None (get k.marked.heap.place n) stays
+    ∙ ap (λ place. get place n) (marked ∙ idle)
 
 pub Sound-collection : (s t : State) (events : List Event) (scans : ℕ) → IsCollection s events scans t → Sound s → Sound t
 Sound-collection s t events scans c h =

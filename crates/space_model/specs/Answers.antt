@@ -25,6 +25,7 @@ abbrev pub WritesRoot : State → List ℕ → Value → Reply → Reply → Sta
 WritesRoot s root value answer reply t =
     ((reply ≡ answer) × Rooted s root value t) ⊎ ((reply ≡ NoMemory) × (root_value s.roots root ≡ None) × (t ≡ s))
 
+-- what `set` answers to a value, or to the refusal that was found instead
 abbrev pub SetReply : State → List ℕ → Result Value Refusal → Reply → State → Type 0
 SetReply s root (Ok value) reply t = WritesRoot s root value Done reply t
 SetReply s root (Err why) reply t = Refuses s why reply t
@@ -33,6 +34,7 @@ SetReply s root (Err why) reply t = Refuses s why reply t
 abbrev pub Sets : State → List ℕ → Input → Reply → State → Type 0
 Sets s root value reply t = SetReply s root (input_value s value) reply t
 
+-- what `drop` answers to what the root holds, if there is one
 abbrev pub DropReply : State → List ℕ → Option Value → Reply → State → Type 0
 DropReply s root None reply t = Refuses s NoRoot reply t
 DropReply s root (Some value) reply t = (reply ≡ Done) × Unrooted s root t
@@ -46,6 +48,7 @@ abbrev pub field_value : List Item → Result Value Refusal → ℕ → Result V
 field_value graph object index =
     and_then object (λ value. and_then (object_in value) (λ name. field_in (item_of graph name) index))
 
+-- what `load` answers to the value of the field, or to the refusal that was found instead
 abbrev pub LoadReply : State → List ℕ → Result Value Refusal → Reply → State → Type 0
 LoadReply s root (Ok value) reply t = WritesRoot s root value (Read value) reply t
 LoadReply s root (Err why) reply t = Refuses s why reply t
@@ -61,6 +64,7 @@ written_field graph object index value =
     and_then (object_in values.0) (λ name.
     and_then (field_in (item_of graph name) index) (λ old. Ok (name, values.1))))
 
+-- what `store` answers to the name and the value that its field gets, or to the refusal that was found instead
 abbrev pub StoreReply : State → ℕ → Result (ℕ × Value) Refusal → Reply → State → Type 0
 StoreReply s index (Ok written) reply t = (reply ≡ Done) × Stored s written.0 index written.1 t
 StoreReply s index (Err why) reply t = Refuses s why reply t
@@ -77,6 +81,7 @@ is_same_value (Small a) (Small b) = a == b
 is_same_value (Name a) (Name b) = a == b
 is_same_value _ _ = false
 
+-- what `same` answers to two values, or to the refusal that was found instead
 abbrev pub same_reply : Result (Value × Value) Refusal → Reply
 same_reply (Ok values) = Truth (is_same_value values.0 values.1)
 same_reply (Err why) = Refused why

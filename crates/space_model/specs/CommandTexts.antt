@@ -13,23 +13,28 @@ use Rattle.space_model.specs.declared.object.Style.TheVariants.{Movable, Keeping
 use Rattle.space_model.specs.Idents.{IsIdent}
 use Rattle.space_model.specs.Spelling.{Piece, Say, Number, Hex, Called, text_of_pieces}
 
+-- a root by its ident, a stack word by `@` and its place
 abbrev pub operand_pieces : Operand → List Piece
 operand_pieces (Root name) = Called name ∷ []
 operand_pieces (Word place) = Say (codes "@") ∷ Number place ∷ []
 
+-- an operand, `nil`, or `=` and a small integer
 abbrev pub input_pieces : Input → List Piece
 input_pieces (From operand) = operand_pieces operand
 input_pieces Nil = Say (codes "nil") ∷ []
 input_pieces (Small number) = Say (codes "=") ∷ Number number ∷ []
 
+-- a space, and `P` or `U`
 abbrev pub guard_text : Guard → List ℕ
 guard_text Protected = codes " P"
 guard_text Unprotected = codes " U"
 
+-- a space, and `M` or `K`
 abbrev pub style_text : Style → List ℕ
 style_text Movable = codes " M"
 style_text Keeping = codes " K"
 
+-- the pieces of the line of a command
 abbrev pub command_pieces : Command → List Piece
 command_pieces (New root fields guard style) = Say (codes "new ") ∷ Called root ∷ Say (codes " ") ∷ Number fields ∷ Say (guard_text guard) ∷ Say (style_text style) ∷ []
 command_pieces (Set root value) = Say (codes "set ") ∷ Called root ∷ Say (codes " ") ∷ input_pieces value

@@ -1,7 +1,8 @@
 -- The laws of the definitions, which functions of this crate promise.
-use Rattle.std.specs.Prelude.{◌≡◌, ◌↔◌, ℕ, Bool, true, List, [], length, Option, nat_eq}
+use Rattle.std.specs.Prelude.{◌≡◌, ◌↔◌, ℕ, Bool, true, List, [], length, Option, Some, nat_eq}
 use Rattle.std.specs.List.{IsDistinct}
 use Rattle.std.specs.Set.{is_member}
+use Rattle.std.specs.FinMap.{get}
 use Rattle.space_model.specs.declared.command.Command.{Command}
 use Rattle.space_model.specs.declared.command.Input.{Input}
 use Rattle.space_model.specs.declared.command.Operand.TheVariants.{Word}
@@ -19,10 +20,10 @@ use Rattle.space_model.specs.Lawful.{Lawful, LawfulAll}
 use Rattle.space_model.specs.Layout.{pool_for}
 use Rattle.space_model.specs.Moments.{noted, SameMoments}
 use Rattle.space_model.specs.New.{News}
-use Rattle.space_model.specs.Operands.{operand_value, input_value}
+use Rattle.space_model.specs.Operands.{operand_value, input_value, named_by}
 use Rattle.space_model.specs.Outputs.{Output}
 use Rattle.space_model.specs.Places.{FullAt}
-use Rattle.space_model.specs.Reach.{Reach, IsStart}
+use Rattle.space_model.specs.Reach.{Reach, IsStart, Named}
 use Rattle.space_model.specs.Reached.{reached_names}
 use Rattle.space_model.specs.Sound.{Sound, SoundMoments, IsSmallInput, IsGivenSmall, AreGivenSmall}
 use Rattle.space_model.specs.StackAnswers.{Pushes}
@@ -39,7 +40,7 @@ ReachHasStarts = (s : State) (name : ℕ) → IsStart s name → Reach s name
 abbrev pub ReachIsClosed : Type 0
 ReachIsClosed = (s : State) (parent name : ℕ) → Reach s parent → IsChild s.graph parent name → Reach s name
 
--- a set that has the starts, and with each name its children, has all that is reached
+-- a set that a test decides and that has the starts, and with each name its children, has all that is reached
 abbrev pub ReachIsLeast : Type 0
 ReachIsLeast = (s : State) (test : ℕ → Bool) → ((name : ℕ) → IsStart s name → test name ≡ true) → ((parent name : ℕ) → test parent ≡ true → IsChild s.graph parent name → test name ≡ true) → (name : ℕ) → Reach s name → test name ≡ true
 
@@ -47,6 +48,7 @@ ReachIsLeast = (s : State) (test : ℕ → Bool) → ((name : ℕ) → IsStart s
 abbrev pub ReachIsListed : Type 0
 ReachIsListed = (s : State) (name : ℕ) → (is_member nat_eq (reached_names s) name ≡ true) ↔ Reach s name
 
+-- each name is in that list once
 abbrev pub ReachIsListedOnce : Type 0
 ReachIsListedOnce = (s : State) → IsDistinct nat_eq (reached_names s)
 
@@ -58,6 +60,7 @@ NotingIsDone = (s : State) → Sound s → noted s ≡ s
 abbrev pub NotingStays : Type 0
 NotingStays = (s t : State) → SameMoments s t → SoundMoments s → noted t ≡ t
 
+-- the opening is sound, with any limit
 abbrev pub OpeningIsSound : Type 0
 OpeningIsSound = (limit : ℕ) → Sound (opening limit)
 
@@ -65,6 +68,7 @@ OpeningIsSound = (limit : ℕ) → Sound (opening limit)
 abbrev pub LawfulIsSound : Type 0
 LawfulIsSound = (s t : State) (command : Command) (outputs : List Output) → IsGivenSmall command → Lawful s command outputs t → Sound s → Sound t
 
+-- so does a list of lawful commands
 abbrev pub LawfulAllIsSound : Type 0
 LawfulAllIsSound = (s t : State) (commands : List Command) (outputs : List Output) → AreGivenSmall commands → LawfulAll s commands outputs t → Sound s → Sound t
 
@@ -100,7 +104,7 @@ ReachOutlivesVerdicts = (s t : State) (kind : Kind) (taken : List ℕ) → IsVer
 abbrev pub FullLeavesReached : Type 0
 FullLeavesReached = (s t : State) (taken : List ℕ) → IsVerdict s Full taken → Took s Full taken t → Sound s → (name : ℕ) → (is_present t name ≡ true) ↔ Reach t name
 
--- a whole collection scans each name once that was reached before it, and no other
+-- the number of scans of a whole collection is that of the names that were reached before it
 abbrev pub CollectionScansReached : Type 0
 CollectionScansReached = (s t : State) (events : List Event) (scans : ℕ) → IsCollection s events scans t → CountIs (Reach s) scans
 
@@ -117,14 +121,27 @@ abbrev pub FullIsFullAt : Type 0
 FullIsFullAt =
     (s t : State) (root : List ℕ) (fields : ℕ) (guard : Guard) (style : Style) (events : List Event) → News s root fields guard style events FullReply t → Sound s → FullAt t (pool_for fields)
 
--- and then the same names are reached as before the command, and nothing was born
+-- and then the same names are reached as before the command, nothing was born, no field was written, and the roots hold what they
+-- held
 abbrev pub FullMakesNone : Type 0
 FullMakesNone =
     (s t : State) (root : List ℕ) (fields : ℕ) (guard : Guard) (style : Style) (events : List Event) → News s root fields guard style events FullReply t → Sound s → (t.graph ≡ s.graph) × (t.roots ≡ s.roots) × ((name : ℕ) → Reach t name ↔ Reach s name)
 
+-- what is reached in a sound state is present
+abbrev pub ReachedArePresent : Type 0
+ReachedArePresent = (s : State) → Sound s → (name : ℕ) → Reach s name → is_present s name ≡ true
+
+-- and it stays, where it stands, over any lawful command
+abbrev pub ReachedStay : Type 0
+ReachedStay = (s t : State) (command : Command) (outputs : List Output) → Lawful s command outputs t → Sound s → (name : ℕ) → Reach s name → get t.heap.place name ≡ get s.heap.place name
+
 -- after a push the top of the stack has the value that was pushed
 abbrev pub PushedIsTop : Type 0
 PushedIsTop = (s t : State) (input : Input) (word : ℕ) (names : Option ℕ) → IsSmallInput input → Sound s → Pushes s input (Pushed word names) t → operand_value t (Word 0) ≡ input_value s input
+
+-- the name that is told of a word, and is its value, is the one that it names: what stands at that address
+abbrev pub NamedIsTold : Type 0
+NamedIsTold = (s : State) (word name : ℕ) → Sound s → (named_by s.heap.place word ≡ Some name) ↔ Named s word name
 
 -- different outputs have different texts
 abbrev pub TextsDiffer : Type 0

@@ -10,6 +10,7 @@ use Rattle.space_model.specs.Graph.{Item, item_of, children}
 use Rattle.space_model.specs.State.{State}
 use Rattle.space_model.specs.Reached.{reached_names}
 
+-- whether the write barrier protects the object
 abbrev pub is_protected_guard : Guard → Bool
 is_protected_guard Protected = true
 is_protected_guard Unprotected = false
@@ -18,11 +19,12 @@ is_protected_guard Unprotected = false
 abbrev pub outlived_by : List ℕ → ℕ → ℕ
 outlived_by outlived name = slice_index_or outlived (name - 1) 0
 
--- present, protected, and outlived three verdicts
+-- present, protected, and outlived three verdicts or more
 unfoldable pub is_old_in : List Item → FinMap nat_cmp ℕ → List ℕ → ℕ → Bool
 is_old_in graph place outlived name =
     is_some (get place name) && (is_protected_guard (item_of graph name).guard && nat_le 3 (outlived_by outlived name))
 
+-- whether the name is old in the state
 abbrev pub is_old : State → ℕ → Bool
 is_old s name = is_old_in s.graph s.heap.place s.collector.outlived name
 
@@ -31,6 +33,7 @@ unfoldable pub parents_of_young_in : List Item → FinMap nat_cmp ℕ → List �
 parents_of_young_in graph place outlived =
     filter (λ name. list_any (λ child. not (is_old_in graph place outlived child)) (children graph name)) (keys place)
 
+-- the present names of the state with a child that isn't old
 abbrev pub parents_of_young : State → List ℕ
 parents_of_young s = parents_of_young_in s.graph s.heap.place s.collector.outlived
 

@@ -34,6 +34,7 @@ word_value place word =
     else if nat_lt word (2 ^ 63) && (word % 2 == 1) then Some (Small (word / 2))
     else option_map Name (named_by place word)
 
+-- the value of a word of the stack; that there is no such word, or that it has no value, is a refusal
 abbrev pub word_value_in : FinMap nat_cmp ℕ → Option ℕ → Result Value Refusal
 word_value_in place None = Err NoWord
 word_value_in place (Some word) = ok_or (word_value place word) NotObject
@@ -43,6 +44,7 @@ abbrev pub operand_value_in : List Root → List ℕ → FinMap nat_cmp ℕ → 
 operand_value_in roots stack place (RootOperand name) = ok_or (root_value roots name) NoRoot
 operand_value_in roots stack place (Word k) = word_value_in place (slice_get (reverse stack) k)
 
+-- the same, in a state
 abbrev pub operand_value : State → Operand → Result Value Refusal
 operand_value s operand = operand_value_in s.roots s.stack s.heap.place operand
 
@@ -52,6 +54,7 @@ input_value_in roots stack place (From operand) = operand_value_in roots stack p
 input_value_in roots stack place NilInput = Ok Nil
 input_value_in roots stack place (SmallInput number) = Ok (Small number)
 
+-- the same, in a state
 abbrev pub input_value : State → Input → Result Value Refusal
 input_value s input = input_value_in s.roots s.stack s.heap.place input
 

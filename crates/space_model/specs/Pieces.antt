@@ -30,6 +30,7 @@ born s root fields guard style address = record s {
   collector = record s.collector { outlived = s.collector.outlived ++ 0 ∷ [] };
 }
 
+-- t is the state after this birth, with what is reached noted
 abbrev pub Born : State → List ℕ → ℕ → Guard → Style → ℕ → State → Type 0
 Born s root fields guard style address t = t ≡ noted (born s root fields guard style address)
 
@@ -37,6 +38,7 @@ Born s root fields guard style address t = t ≡ noted (born s root fields guard
 abbrev pub rooted : State → List ℕ → Value → State
 rooted s root value = record s { roots = with_root s.roots root value }
 
+-- t is that state, with what is reached noted
 abbrev pub Rooted : State → List ℕ → Value → State → Type 0
 Rooted s root value t = t ≡ noted (rooted s root value)
 
@@ -44,6 +46,7 @@ Rooted s root value t = t ≡ noted (rooted s root value)
 abbrev pub unrooted : State → List ℕ → State
 unrooted s root = record s { roots = without_root s.roots root }
 
+-- t is that state, with what is reached noted
 abbrev pub Unrooted : State → List ℕ → State → Type 0
 Unrooted s root t = t ≡ noted (unrooted s root)
 
@@ -51,9 +54,11 @@ Unrooted s root t = t ≡ noted (unrooted s root)
 abbrev pub stacked : State → List ℕ → State
 stacked s words = record s { stack = words }
 
+-- t is that state, with what is reached noted
 abbrev pub Stacked : State → List ℕ → State → Type 0
 Stacked s words t = t ≡ noted (stacked s words)
 
+-- the item after one of its fields is written
 abbrev pub item_stored : Item → ℕ → Value → Item
 item_stored item index value = record item { values = slice_set item.values index value }
 
@@ -64,5 +69,6 @@ stored s name index value = record s {
   collector = record s.collector { stale = filter (λ pair. not (nat_eq pair.0 name && nat_eq pair.1 index)) s.collector.stale };
 }
 
+-- t is that state, with what is reached noted
 abbrev pub Stored : State → ℕ → ℕ → Value → State → Type 0
 Stored s name index value t = t ≡ noted (stored s name index value)

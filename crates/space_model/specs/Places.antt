@@ -1,4 +1,4 @@
--- Free addresses, and where a new object stands.
+-- Free addresses, where a new object stands, and when the heap is full.
 use Rattle.std.specs.Prelude.{◌≡◌, ◌≢◌, ◌⊎◌, ◌↔◌, ℕ, ◌<◌, ◌≤◌, true, false, length, nat_eq, None, Some}
 use Rattle.std.specs.Set.{is_member}
 use Rattle.std.specs.FinMap.{get}

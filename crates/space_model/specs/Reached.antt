@@ -8,6 +8,7 @@ use Rattle.space_model.specs.Graph.{Item, names_of, children}
 use Rattle.space_model.specs.State.{State}
 use Rattle.space_model.specs.Roots.{Root, root_names}
 
+-- the name, if there is one, before the names
 abbrev pub onto : Option ℕ → List ℕ → List ℕ
 onto None names = names
 onto (Some name) names = name ∷ names
@@ -16,10 +17,12 @@ onto (Some name) names = name ∷ names
 abbrev pub grown : List ℕ → (ℕ → List ℕ) → List ℕ → List ℕ
 grown starts children_of names = onto (find (λ name. not (is_member nat_eq names name)) (starts ++ flat_map children_of names)) names
 
+-- the names after so many steps
 abbrev pub grown_times : List ℕ → (ℕ → List ℕ) → ℕ → List ℕ → List ℕ
 grown_times starts children_of zero names = names
 grown_times starts children_of (suc times) names = grown_times starts children_of times (grown starts children_of names)
 
+-- whether there is a place, and it is this address
 abbrev pub is_at : ℕ → Option ℕ → Bool
 is_at address None = false
 is_at address (Some place) = place == address
@@ -28,6 +31,7 @@ is_at address (Some place) = place == address
 unfoldable pub names_at : FinMap nat_cmp ℕ → ℕ → List ℕ
 names_at place address = filter (λ name. is_at address (get place name)) (keys place)
 
+-- the names that roots hold, and those that stack words name
 unfoldable pub start_names : List Root → List ℕ → FinMap nat_cmp ℕ → List ℕ
 start_names roots stack place = root_names roots ++ flat_map (names_at place) stack
 
@@ -35,6 +39,7 @@ start_names roots stack place = root_names roots ++ flat_map (names_at place) st
 unfoldable pub field_names : List Item → List ℕ
 field_names graph = flat_map (λ item. flat_map names_of item.values) graph
 
+-- as many steps as roots, stack words and fields hold names, so that no name is left to add
 unfoldable pub reached_in : List Item → List Root → List ℕ → FinMap nat_cmp ℕ → List ℕ
 reached_in graph roots stack place =
     grown_times (start_names roots stack place) (children graph) (length (start_names roots stack place ++ field_names graph)) []

@@ -79,6 +79,7 @@ IsSmall Nil = Unit {0}
 IsSmall (Small number) = number < 2 ^ 62
 IsSmall (Name name) = Unit {0}
 
+-- each small integer of the values is below 2 ^ 62
 abbrev pub AreSmall : List Value → Type 0
 AreSmall [] = Unit {0}
 AreSmall (value ∷ values) = IsSmall value × AreSmall values
@@ -93,6 +94,7 @@ abbrev pub AreSoundRoots : List Root → Type 0
 AreSoundRoots [] = Unit {0}
 AreSoundRoots (root ∷ roots) = IsSmall root.1 × AreSoundRoots roots
 
+-- what holds of the state, part by part
 pub record Sound (s : State) : Type 0 where
   pub layout : SoundLayout s.graph s.heap.place s.heap.pages s.heap.limit
   pub corpses : SoundCorpses s.graph s.heap.place s.heap.corpses s.heap.pages s.heap.unswept
@@ -112,12 +114,14 @@ IsSmallInput (From operand) = Unit {0}
 IsSmallInput NilInput = Unit {0}
 IsSmallInput (SmallInput number) = number < 2 ^ 62
 
+-- the same of each value that the command is given
 abbrev pub IsGivenSmall : Command → Type 0
 IsGivenSmall (Set root value) = IsSmallInput value
 IsGivenSmall (Push value) = IsSmallInput value
 IsGivenSmall (Store object index value) = IsSmallInput value
 IsGivenSmall _ = Unit {0}
 
+-- the same of each command of the list
 abbrev pub AreGivenSmall : List Command → Type 0
 AreGivenSmall [] = Unit {0}
 AreGivenSmall (command ∷ commands) = IsGivenSmall command × AreGivenSmall commands

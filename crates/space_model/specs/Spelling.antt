@@ -19,12 +19,14 @@ pub data Piece : Type 0 where
   Hex : (number : ℕ) → Piece
   Called : (ident : List ℕ) → Piece
 
+-- the bytes of a piece
 abbrev pub piece_text : Piece → List ℕ
 piece_text (Say text) = text
 piece_text (Number number) = decimal number
 piece_text (Hex number) = hex number
 piece_text (Called ident) = ident
 
+-- the bytes of the pieces, one after another
 abbrev pub text_of_pieces : List Piece → List ℕ
 text_of_pieces [] = []
 text_of_pieces (piece ∷ pieces) = piece_text piece ++ text_of_pieces pieces

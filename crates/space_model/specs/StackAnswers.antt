@@ -17,6 +17,7 @@ abbrev pub Raws : State → ℕ → Reply → State → Type 0
 Raws s word reply t =
     ((reply ≡ Pushed word (named_by s.heap.place word)) × Stacked s (s.stack ++ word ∷ []) t) ⊎ ((reply ≡ NoMemory) × (t ≡ s))
 
+-- what `push` answers to a value, or to the refusal that was found instead
 abbrev pub PushReply : State → Result Value Refusal → Reply → State → Type 0
 PushReply s (Ok value) reply t = Raws s (value_word s.heap.place value) reply t
 PushReply s (Err why) reply t = Refuses s why reply t

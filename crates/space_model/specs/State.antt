@@ -22,6 +22,7 @@ pub record Heap : Type 0 where
   -- the pages that wait for a sweep, ascending
   pub unswept : List ℕ
 
+-- what the collector is at, and what it has to remember of names
 pub record Collector : Type 0 where
   pub phase : Phase
   -- in Fixing, no field of an object below this address is in `stale`; outside Fixing it is 0
@@ -40,6 +41,7 @@ pub record WeakEntry : Type 0 where
   pub key_name : ℕ
   pub value_name : ℕ
 
+-- what commands keep of names besides roots and the stack
 pub record Tables : Type 0 where
   -- the names with an id, in the order in which the ids were given
   pub ids : List ℕ
@@ -48,7 +50,7 @@ pub record Tables : Type 0 where
   pub finals : List (ℕ × List ℕ)
   pub queue : List (ℕ × List ℕ)
 
--- what was noted since the last marking began
+-- what was noted since the last marking began; until a marking goes on over commands, `began` and `scanned` stay as at the opening
 pub record History : Type 0 where
   -- the names that were reached at some moment
   pub seen : List ℕ
@@ -59,6 +61,7 @@ pub record History : Type 0 where
   -- the scans since
   pub scanned : ℕ
 
+-- how many verdicts, freed objects, compactions and moves there were
 pub record Counters : Type 0 where
   pub minor_verdicts : ℕ
   pub other_verdicts : ℕ
@@ -66,6 +69,7 @@ pub record Counters : Type 0 where
   pub compactions : ℕ
   pub moves : ℕ
 
+-- the whole state
 pub record State : Type 0 where
   -- the n-th item belongs to the name n, from 1
   pub graph : List Item

@@ -14,20 +14,24 @@ use Rattle.space_model.specs.declared.value.Value.TheVariants.{Nil, Small, Name}
 use Rattle.space_model.specs.Outputs.{Output, Told, Replied}
 use Rattle.space_model.specs.Spelling.{Piece, Say, Number, Hex, text_of_pieces, IsSpelled}
 
+-- the word for a kind of verdict
 abbrev pub kind_text : Kind → List ℕ
 kind_text Minor = codes "minor"
 kind_text Major = codes "major"
 kind_text FullKind = codes "full"
 
+-- the pieces of the line of an event
 abbrev pub event_pieces : Event → List Piece
 event_pieces (Gone name) = Say (codes "! gone #") ∷ Number name ∷ []
 event_pieces (Verdict kind gone) = Say (codes "! verdict ") ∷ Say (kind_text kind) ∷ Say (codes " ") ∷ Number gone ∷ []
 
+-- `nil`, `=` and a small integer, or `#` and a name
 abbrev pub value_pieces : Value → List Piece
 value_pieces Nil = Say (codes "nil") ∷ []
 value_pieces (Small number) = Say (codes "=") ∷ Number number ∷ []
 value_pieces (Name name) = Say (codes "#") ∷ Number name ∷ []
 
+-- the line of a refusal
 abbrev pub refusal_text : Refusal → List ℕ
 refusal_text TooLarge = codes "error too large"
 refusal_text NoRoot = codes "error no root"
@@ -35,14 +39,17 @@ refusal_text NoWord = codes "error no word"
 refusal_text NotObject = codes "error not an object"
 refusal_text NoField = codes "error no field"
 
+-- `true` or `false`
 abbrev pub truth_text : Bool → List ℕ
 truth_text true = codes "true"
 truth_text false = codes "false"
 
+-- `#` and the name, or `-` where there is none
 abbrev pub named_pieces : Option ℕ → List Piece
 named_pieces None = Say (codes "-") ∷ []
 named_pieces (Some name) = Say (codes "#") ∷ Number name ∷ []
 
+-- the pieces of the line of a reply
 abbrev pub reply_pieces : Reply → List Piece
 reply_pieces (Made name address) = Say (codes "#") ∷ Number name ∷ Say (codes " ") ∷ Hex address ∷ []
 reply_pieces Full = Say (codes "full") ∷ []
@@ -54,6 +61,7 @@ reply_pieces (Truth answer) = Say (truth_text answer) ∷ []
 reply_pieces (Scanned count) = Say (codes "ok scanned ") ∷ Number count ∷ []
 reply_pieces (Refused why) = Say (refusal_text why) ∷ []
 
+-- the pieces of the line of an output
 abbrev pub output_pieces : Output → List Piece
 output_pieces (Told event) = event_pieces event
 output_pieces (Replied reply) = reply_pieces reply

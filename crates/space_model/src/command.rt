@@ -50,7 +50,7 @@ pub enum Command {
     },
     /// The top word of the stack is taken away.
     Pop,
-    /// A field of the object becomes the value, with the write barrier.
+    /// A field of the object becomes the value.
     Store {
         object: Operand,
         index: u64,

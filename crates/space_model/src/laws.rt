@@ -1,7 +1,7 @@
 // Laws of the definitions: functions that do nothing, and promise them.
-ghost use Rattle.space_model.specs.Laws.{ReachHasStarts, ReachIsClosed, ReachIsLeast, ReachIsListed, ReachIsListedOnce, NotingIsDone, NotingStays, OpeningIsSound, LawfulIsSound, LawfulAllIsSound, StartMarkIsSound, TookIsSound, Sweep1IsSound, SweepAllIsSound, SweepAllEnds, SeenAreReached, ReachOutlivesVerdicts, FullLeavesReached, CollectionScansReached, GcLeavesReached, GcIsThere, FullIsFullAt, FullMakesNone, PushedIsTop, TextsDiffer};
+ghost use Rattle.space_model.specs.Laws.{ReachHasStarts, ReachIsClosed, ReachIsLeast, ReachIsListed, ReachIsListedOnce, NotingIsDone, NotingStays, OpeningIsSound, LawfulIsSound, LawfulAllIsSound, StartMarkIsSound, TookIsSound, Sweep1IsSound, SweepAllIsSound, SweepAllEnds, SeenAreReached, ReachOutlivesVerdicts, FullLeavesReached, CollectionScansReached, GcLeavesReached, GcIsThere, FullIsFullAt, FullMakesNone, ReachedArePresent, ReachedStay, PushedIsTop, NamedIsTold, TextsDiffer};
 
-/// What is reached is the least set that has the starts, and with each name its children.
+/// What is reached is the least set, of those that a test decides, that has the starts, and with each name its children.
 pub fn reach_is_least()
     ensures starts { ReachHasStarts }
     ensures closed { ReachIsClosed }
@@ -39,7 +39,7 @@ pub fn verdicts_keep_what_is_reached()
     ensures exact { FullLeavesReached }
 {}
 
-/// A whole collection can be made, scans what is reached, and leaves nothing else.
+/// A whole collection can be made, does as many scans as names are reached, and leaves nothing else.
 pub fn collections_leave_what_is_reached()
     ensures scans { CollectionScansReached }
     ensures leaves { GcLeavesReached }
@@ -52,9 +52,20 @@ pub fn full_is_full()
     ensures same { FullMakesNone }
 {}
 
+/// Nothing that is reached goes: it is present, and each command leaves it where it stands.
+pub fn what_is_reached_stays()
+    ensures present { ReachedArePresent }
+    ensures stays { ReachedStay }
+{}
+
 /// The word of a value has that value, on the stack.
 pub fn pushed_is_top()
     ensures { PushedIsTop }
+{}
+
+/// The object that a reply tells of a word is the one that the word names.
+pub fn named_is_told()
+    ensures { NamedIsTold }
 {}
 
 /// So the bytes that were written name every output.

@@ -1,5 +1,5 @@
 // Pools, slots and addresses.
-ghost use Rattle.std.specs.Prelude.{◌≡◌, ◌<◌, ◌≤◌, MatchOption};
+ghost use Rattle.std.specs.Prelude.{◌≡◌, ◌+◌, ◌<◌, ◌≤◌, MatchOption};
 ghost use Rattle.space_model.specs.Layout.{slot_bytes as bytes_of_slot, page_slots as slots_of_page, fields_of as fields_of_pool, pool_for as pool_of_fields, slot_address};
 
 /// The number of size pools (CRuby 3.3).
@@ -28,7 +28,8 @@ pub fn slot_bytes(pool: u8) -> u64
 /// The most fields of an object in the pool: the words of its slot, but for the first two.
 pub fn fields_of(pool: u8) -> u64
     requires { pool < POOLS }
-    ensures { result ≡ fields_of_pool pool }
+    ensures fields { result ≡ fields_of_pool pool }
+    ensures last { 1 + pool ≡ POOLS → result ≡ MOST_FIELDS }
 {
     match pool {
         0 => 3,
@@ -72,7 +73,7 @@ pub fn pool_for(fields: u64) -> Option<u8>
 }
 
 #[tactic(auto, unfolding(crate::specs::Layout::slot_bytes, crate::specs::Layout::page_slots, crate::specs::Layout::slot_address))]
-/// The address, in bytes, of a slot of a page whose pool this is.
+/// The address, in bytes, of a slot of a page whose pool this is. The page numbered 0 begins at 65,536 (this project's own).
 pub fn address_of(page: u32, pool: u8, slot: u32) -> u64
     requires pool { pool < POOLS }
     requires page { page < 4096 }

@@ -21,7 +21,8 @@ pub enum Refusal {
 pub enum Reply {
     /// The object with this name was born at this address, a number of bytes.
     Made { name: u64, address: u64 },
-    /// No object of this size can be made: there are as many pages as may be, and none has a free slot for it.
+    /// No object of this size can be made, after a whole collection too: there are as many pages as may be, none is spare, and
+    /// none has a free slot for it.
     Full,
     /// Memory was lacking.
     NoMemory,

@@ -5,6 +5,7 @@ ghost use Rattle.space_model.specs.Words.{small_number_word, IsSmallWord};
 /// What a field or a root holds.
 #[derive(Clone, Copy, Debug, PartialEq, Eq)]
 pub enum Value {
+    /// Nil, whose word is 0 (this project's own).
     Nil,
     /// A small integer, which is below 2^62.
     Small(u64),
