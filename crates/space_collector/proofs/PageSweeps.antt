@@ -1,5 +1,5 @@
 -- The sweep of one page after another.
-use Rattle.std.proofs.Common.{◌≡◌, ◌≢◌, ℕ, ◌+◌, ◌<◌, true, false, List, [], ◌∷◌, length, sym, ap, ◌∙◌, subst, arith, nat_eq, true≢false, ⊎_elim}
+use Rattle.std.proofs.Common.{◌≡◌, ◌≢◌, ℕ, ◌+◌, ◌<◌, true, false, not, ◌&&◌, List, [], ◌∷◌, length, sym, ap, ◌∙◌, subst, arith, nat_eq, true≢false, ⊎_elim}
 use Rattle.std.specs.Set.{is_member}
 use Rattle.std.proofs.lemmas.Bool.{cases_Bool, cases_eq}
 use Rattle.std.proofs.lemmas.Bool.Decides.{nat_tests}
@@ -15,7 +15,8 @@ use Rattle.space_heap.proofs.FreeLaws.{is_moved-swept}
 use Rattle.space_heap.proofs.PhaseLaws.{stands-in_phase, is_object-in_phase, object_of-in_phase, is_moved-in_phase}
 use Rattle.space_heap.proofs.SweptLaws.{stands-swept_same, stands-swept_other, is_object-swept, object_of-swept, pool_at-swept_other, count-swept, is_unswept-swept, limit-swept, grey-swept, counters-swept}
 use Rattle.space_heap.proofs.SweptPages.{pool_at-swept_kept, pool_at-swept_spare, unswept-swept_first}
-use Rattle.space_sweep.specs.Sweeps.{SweepsFirst, phase_left}
+use Rattle.space_sweep.specs.Sweeps.{IsNextUnswept, SweepsFirst, phase_left}
+use Rattle.space_sweep.proofs.FirstPages.{first_from, none_before}
 use Rattle.space_collector.specs.AllSwept.{AreSwept}
 
 module _ (w v : HeapView) (h : AreSwept w v) (still : HasNoMoved w) (sound : IsSoundHeap v) (page : ℕ) (others : List ℕ) (first : v.unswept ≡ page ∷ others) (phase : Phase) where
@@ -100,6 +101,20 @@ fewer_wait v z freed sound s =
     let were : length v.unswept ≡ length s.others + 1 = ap length s.first ∙ omega arith in
     let are : length z.unswept ≡ length s.others = ap (λ (z : HeapView). length z.unswept) s.after ∙ ap length (unswept-swept_first v s.page sound s.others s.first) in
     omega arith
+
+-- and none up to the swept page waits, where none waited below the page from which it was sought
+pub none_up_to : (v z : HeapView) (freed from page : ℕ) → IsSoundHeap v → ((other : ℕ) → other < from → is_unswept v other ≡ false) → IsNextUnswept v from page → SweepsFirst v z freed → (other : ℕ) → other < page + 1 → is_unswept z other ≡ false
+none_up_to v z freed from page sound below next s other up_to =
+    let first = first_from v from page sound below next in
+    let pages : s.page ∷ s.others ≡ page ∷ first.0 = sym s.first ∙ first.1 in
+    let same : s.page ≡ page = cc in
+    ap (λ (z : HeapView). is_unswept z other) s.after
+    ∙ is_unswept-swept v s.page other
+    ∙ ap (λ k. is_unswept v other && not (nat_eq other k)) same
+    ∙ ⊎_elim
+    (λ here. grind (arith, nat_tests, here))
+    (λ differ. ap (λ b. b && not (nat_eq other page)) (none_before v page sound first other (omega (arith, differ, up_to))))
+    (cases_eq other page)
 
 -- one page more was swept
 pub swept_first : (w v z : HeapView) (freed : ℕ) → AreSwept w v → HasNoMoved w → IsSoundHeap v → SweepsFirst v z freed → AreSwept w z

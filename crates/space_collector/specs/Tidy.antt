@@ -21,7 +21,8 @@ pub record CanCollect (heap : HeapView) : Type 0 where
 abbrev pub most_slots : ℕ
 most_slots = 1638 * 4096
 
--- no object was made, one verdict was done that wasn't minor, and the heap was left tidy
+-- no object was made, one verdict was done that wasn't minor, no more slots were freed than a heap has, and a tidy heap is tidy
+-- again
 pub record IsOneVerdict (old new : HeapView) : Type 0 where
   pub born : new.counters.born ≡ old.counters.born
   pub minor_verdicts : new.counters.minor_verdicts ≡ old.counters.minor_verdicts

@@ -45,6 +45,7 @@ pub fn collect<K: Sink, L: Ledger>(
 {
     let scans = whole(heap, roots, stack, steps);
     let gone = verdict(heap, Kind::Full);
+    // For its clause `sound`.
     heap.page_count();
     let told = tell_verdict(heap, Kind::Full, gone, sink);
     sweep_all(heap);

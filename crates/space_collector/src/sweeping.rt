@@ -6,9 +6,10 @@ ghost use Rattle.space_heap.specs.SoundHeap.{IsSoundHeap};
 ghost use Rattle.space_collector.specs.AllSwept.{AreAllSwept};
 
 use space_heap::Heap;
-use space_sweep::{first_unswept, sweep};
+use space_sweep::{next_unswept, sweep_first};
 
-/// Sweeps each page that waits, in ascending order. It takes no memory.
+/// Sweeps each page that waits, in ascending order. It takes no memory. After each sweep it goes on above the swept
+/// page, so that beside the sweeps it looks at each page three times at most.
 pub fn sweep_all(heap: &mut Heap)
     requires few { heap.old.counters.freed < 2 ^ 61 }
     requires none_moved { HasNoMoved heap.old }
@@ -17,9 +18,13 @@ pub fn sweep_all(heap: &mut Heap)
     ensures idle { heap.new.phase ≡ Idle }
     ensures sound { IsSoundHeap heap.new }
 {
+    // For its clause `sound`.
     heap.page_count();
-    'pages: while first_unswept(heap).is_some() {
-        sweep(heap);
+    let mut from = 0;
+    'pages: while let Some(page) = next_unswept(heap, from) {
+        sweep_first(heap, page);
+        // For its clause `sound`.
         heap.page_count();
+        from = page + 1;
     }
 }

@@ -27,6 +27,7 @@ pub fn tell_verdict<K: Sink>(
     ensures fault { OnErr result (AppendsPrefix (K.written sink.old) (K.written sink.new) (text_of (map Told (verdict_events kind (gone_names heap.now))))) }
     ensures cause { HasCause (K.faults sink.old) (K.faults sink.new) result }
 {
+    // For its clause `sound`.
     heap.page_count();
     let mut from = 0;
     'told: while let Some(dead) = next_gone(heap, from) {

@@ -8,7 +8,8 @@ pub record CanAnswer (heap : HeapView) : Type 0 where
   pub collect : CanCollect heap
   pub born : heap.counters.born < 2 ^ 62
 
--- one command was answered: it made one object at most, did one verdict of a kind at most, and left the heap tidy
+-- one command was answered: it made one object at most, did one verdict of each kind at most, freed no more slots than a heap
+-- has, and left a tidy heap tidy
 pub record GoesOn (old new : HeapView) : Type 0 where
   pub born : new.counters.born ≤ old.counters.born + 1
   pub minor_verdicts : new.counters.minor_verdicts ≤ old.counters.minor_verdicts + 1
@@ -16,7 +17,7 @@ pub record GoesOn (old new : HeapView) : Type 0 where
   pub freed : new.counters.freed ≤ old.counters.freed + most_slots
   pub tidy : IsTidy old → IsTidy new
 
--- after so many commands
+-- the heap after so many commands: it is tidy, and no count is higher than they can have made it
 pub record IsWithinTurns (heap : HeapView) (turns : ℕ) : Type 0 where
   pub tidy : IsTidy heap
   pub born : heap.counters.born ≤ turns

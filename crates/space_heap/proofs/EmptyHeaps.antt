@@ -1,5 +1,5 @@
 -- The laws of a heap without a page, for the callers.
-use Rattle.std.proofs.Common.{◌≡◌, ℕ, false, ap, ◌∙◌, arith, None, not, ◌&&◌}
+use Rattle.std.proofs.Common.{◌≡◌, ℕ, false, ap, arith, None, not, ◌&&◌}
 use Rattle.space_model.specs.Layout.{page_of}
 use Rattle.space_heap.specs.Slots.{has_object, has_present, moved_in, is_free}
 use Rattle.space_heap.specs.HeapView.{empty_heap, is_slot, is_unswept, slot_at, pool_with}

@@ -1,5 +1,5 @@
 -- What is resolved where nothing was moved, for the callers.
-use Rattle.std.proofs.Common.{◌≡◌, ℕ, true, false, refl}
+use Rattle.std.proofs.Common.{◌≡◌, ℕ, false, refl}
 use Rattle.space_heap.specs.Slots.{SlotView, Free, Moved, Object, has_moved, moved_in}
 use Rattle.space_heap.specs.HeapView.{HeapView, slot_at}
 use Rattle.space_heap.specs.Objects.{is_moved, resolved}

@@ -1,10 +1,10 @@
 -- The slots of a page that a pool got, for the callers: which addresses they are, and that all else stays.
-use Rattle.std.proofs.Common.{◌≡◌, ℕ, ◌*◌, ◌<◌, ◌≤◌, Bool, true, false, cond, length, refl, sym, ap, ◌∙◌, nat_eq, arith, Option, Some, ◌&&◌}
+use Rattle.std.proofs.Common.{◌≡◌, ℕ, ◌*◌, ◌<◌, ◌≤◌, Bool, true, false, cond, length, refl, sym, ap, ◌∙◌, nat_eq, arith, Some}
 use Rattle.std.proofs.lemmas.Bool.{and_parts, eqb-true}
 use Rattle.std.proofs.lemmas.Bool.Decides.{nat_tests}
 use Rattle.space_model.specs.Layout.{page_of, page_slots, slot_address}
 use Rattle.space_heap.specs.HeapView.{PageView, HeapView, no_page, bytes_of, page_at, pool_at, is_unswept, slot_number, is_start, free_page, with_page}
-use Rattle.space_heap.specs.FreeSlots.{is_free_at, IsFreeAt}
+use Rattle.space_heap.specs.FreeSlots.{IsFreeAt}
 use Rattle.space_heap.proofs.Laws.{SameRest}
 use Rattle.space_heap.proofs.NewPages.{page_at-with_page}
 use Rattle.space_heap.proofs.NewPageLaws.{is_free_at-with_page_same}

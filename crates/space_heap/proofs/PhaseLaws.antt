@@ -1,7 +1,6 @@
 -- The laws of a heap whose phase changed, for the callers: all else stays.
-use Rattle.std.proofs.Common.{◌≡◌, ℕ, Bool, refl}
+use Rattle.std.proofs.Common.{◌≡◌, ℕ, refl}
 use Rattle.space_model.specs.declared.phase.Phase.{Phase}
-use Rattle.space_heap.specs.Slots.{ObjectView}
 use Rattle.space_heap.specs.HeapView.{HeapView, is_slot, pool_with, slot_at}
 use Rattle.space_heap.specs.Objects.{stands, is_object, object_of, resolved, is_moved}
 use Rattle.space_heap.specs.FreeSlots.{is_free_at}

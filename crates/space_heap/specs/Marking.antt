@@ -1,5 +1,5 @@
 -- The heap after an object became grey or black, and after all marks were taken away.
-use Rattle.std.specs.Prelude.{◌≡◌, ℕ, ◌-◌, ◌≤◌, true, false, List, [], ◌∷◌, ◌++◌, length, take, map, nat_eq}
+use Rattle.std.specs.Prelude.{◌≡◌, ℕ, ◌-◌, ◌<◌, ◌≤◌, true, false, List, [], ◌∷◌, ◌++◌, length, take, map, nat_eq, slice_index_or}
 use Rattle.std.specs.List.{IsDistinct}
 use Rattle.std.specs.Set.{is_member}
 use Rattle.space_heap.specs.declared.colour.Colour.{Colour}
@@ -23,6 +23,10 @@ painted v a c grey = record (with_object v a (with_colour (object_of v a) c)) { 
 -- the object is grey now, the last that became so
 abbrev pub greyed : HeapView → ℕ → HeapView
 greyed v a = painted v a Grey (v.grey ++ a ∷ [])
+
+-- the address of the object that became grey last
+abbrev pub IsLastGrey : HeapView → ℕ → Type 0
+IsLastGrey v a = (0 < length v.grey) × (a ≡ slice_index_or v.grey (length v.grey - 1) 0)
 
 -- the object, which was the last grey one, is black now
 abbrev pub blackened : HeapView → ℕ → HeapView

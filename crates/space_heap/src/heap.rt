@@ -73,7 +73,7 @@ pub enum PlaceFault {
 
 impl Heap {
     /// A heap without a page, which may get `limit` pages, 1 to 4,096 (this project's own). It takes
-    /// the planes that formulas are computed into.
+    /// the memory that verdicts and sweeps work in, so that they take none.
     pub fn new(alloc: Global, limit: u32) -> Result<Heap, NoMemory>
         requires some { 1 ≤ limit }
         requires most { limit ≤ 4096 }
@@ -115,8 +115,8 @@ impl Heap {
         self.phase
     }
 
+    /// How many pages there are. The clause `sound` holds of every heap: who needs it calls this.
     #[tactic(auto, using(crate::proofs::Views::reading))]
-    /// How many pages there are.
     pub fn page_count(&self) -> u32
         ensures count { result ≡ length self.now.pages }
         ensures limited { length self.now.pages ≤ self.now.limit }
@@ -125,8 +125,8 @@ impl Heap {
         self.pools.page_count()
     }
 
+    /// The pool of a page, 0 to 4, or `None` for a spare page.
     #[tactic(auto, using(crate::proofs::Views::reading))]
-    /// The pool of a page, or `None` for a spare page.
     pub fn page_pool(&self, page: u32) -> Option<u8>
         requires { page < length self.now.pages }
         ensures { result ≡ pool_at self.now page }
@@ -134,7 +134,8 @@ impl Heap {
         self.pools.page_pool(page)
     }
 
-    /// The word itself where it names an object: one that isn't gone stands at this address.
+    /// The word itself where it names an object: one that isn't gone stands at this address. No word
+    /// into the middle of a slot names one (conservative marking of CRuby 3.3).
     pub fn object_at(&self, word: u64) -> Option<u64>
         ensures { result ≡ (if is_object self.now word then Some word else None) }
     {
@@ -181,7 +182,7 @@ impl Heap {
         self.words(address)[1]
     }
 
-    /// Its style.
+    /// Its style: how it marks its children.
     pub fn style(&self, address: u64) -> Style
         requires { stands self.now address ≡ true }
         ensures { result ≡ (object_of self.now address).style }
@@ -189,7 +190,7 @@ impl Heap {
         style_in(self.words(address)[0])
     }
 
-    /// How many fields it has.
+    /// How many fields it has, 78 at most.
     pub fn field_count(&self, address: u64) -> u64
         requires { stands self.now address ≡ true }
         ensures { result ≡ length (object_of self.now address).fields }
@@ -197,7 +198,7 @@ impl Heap {
         self.words(address)[0] / 256
     }
 
-    /// Its guard.
+    /// Its guard: whether stores into it go through the write barrier.
     pub fn guard(&self, address: u64) -> Guard
         requires { stands self.now address ≡ true }
         ensures { result ≡ (object_of self.now address).guard }
@@ -205,7 +206,7 @@ impl Heap {
         self.traits(address).guard
     }
 
-    /// Its colour.
+    /// Its colour: how far a marking has come with it.
     pub fn colour(&self, address: u64) -> Colour
         requires { stands self.now address ≡ true }
         ensures { result ≡ (object_of self.now address).colour }
@@ -213,7 +214,7 @@ impl Heap {
         self.traits(address).colour
     }
 
-    /// Its age.
+    /// Its age, 0 to 3; it is old at 3 (CRuby 3.3).
     pub fn age(&self, address: u64) -> u8
         requires { stands self.now address ≡ true }
         ensures { result ≡ (object_of self.now address).age }
@@ -221,7 +222,7 @@ impl Heap {
         self.traits(address).age
     }
 
-    /// Whether it is remembered.
+    /// Whether it is remembered: a minor marking reads its fields (CRuby 3.3).
     pub fn remembered(&self, address: u64) -> bool
         requires { stands self.now address ≡ true }
         ensures { result ≡ (object_of self.now address).remembered }
@@ -229,7 +230,7 @@ impl Heap {
         self.traits(address).remembered
     }
 
-    /// Whether it is kept.
+    /// Whether it is kept: no minor verdict takes it (the uncollectible objects of CRuby 3.3).
     pub fn kept(&self, address: u64) -> bool
         requires { stands self.now address ≡ true }
         ensures { result ≡ (object_of self.now address).kept }
@@ -237,7 +238,7 @@ impl Heap {
         self.traits(address).kept
     }
 
-    /// Whether it is pinned.
+    /// Whether it is pinned: no compaction moves it (CRuby 3.3).
     pub fn pinned(&self, address: u64) -> bool
         requires { stands self.now address ≡ true }
         ensures { result ≡ (object_of self.now address).pinned }
@@ -245,7 +246,7 @@ impl Heap {
         self.traits(address).pinned
     }
 
-    /// Whether it is gone.
+    /// Whether it is gone: a verdict took it, and its page wasn't swept since.
     pub fn gone(&self, address: u64) -> bool
         requires { stands self.now address ≡ true }
         ensures { result ≡ (object_of self.now address).gone }
@@ -253,7 +254,8 @@ impl Heap {
         self.traits(address).gone
     }
 
-    /// The lowest free address of the pool, or `None` where none of its pages has a free slot.
+    /// The lowest free address of the pool, or `None` where none of its pages has a free slot, but for
+    /// those that wait for a sweep.
     pub fn lowest_free(&self, pool: u8) -> Option<u64>
         requires { pool < POOLS }
         ensures { MatchOption result (HasNoFree self.now pool) (IsLeastFree self.now pool) }
@@ -317,8 +319,8 @@ impl Heap {
         }
     }
 
-    /// Gives birth to an object whose fields are nil, at the lowest free address of the first pool
-    /// that has room for them. It takes no memory.
+    /// Gives birth to an object of so many fields, which are nil, at the lowest free address of the
+    /// first pool whose slots have room for them (this project's own order). It takes no memory.
     pub fn place(&mut self, fields: u64, guard: Guard, style: Style) -> Result<Made, PlaceFault>
         requires few { fields ≤ MOST_FIELDS }
         requires names { self.old.counters.born < 2 ^ 62 }

@@ -10,9 +10,10 @@ use Rattle.space_heap.specs.declared.colour.Colour.TheVariants.{White, Grey, Bla
 use Rattle.space_heap.specs.HeapView.{HeapView}
 use Rattle.space_heap.specs.Objects.{is_object}
 use Rattle.space_heap.specs.Marking.{colour_of, greyed}
+use Rattle.space_heap.specs.Sweeping.{is_white}
 use Rattle.space_heap.proofs.ObjectLaws.{stands_from_object}
 use Rattle.space_heap.proofs.MarkingLaws.{colour_of-painted_same, colour_of-painted_other}
-use Rattle.space_major.specs.Scans.{is_white, visited, visited_all}
+use Rattle.space_major.specs.Scans.{visited, visited_all}
 use Rattle.space_major.specs.Graph.{SameGraph}
 use Rattle.space_major.specs.Marking.{IsMarked, SameNotes}
 use Rattle.space_major.proofs.Same.{SameGraph-refl, SameGraph-then, SameGraph-painted, SameNotes-refl, SameNotes-then, SameNotes-painted, is_object-same}

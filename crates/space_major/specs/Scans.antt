@@ -1,20 +1,14 @@
 -- What a visit of a word and a scan of an object leave.
-use Rattle.std.specs.Prelude.{ℕ, Bool, true, false, ◌&&◌, List, if◌then◌else◌}
+use Rattle.std.specs.Prelude.{ℕ, ◌&&◌, List, if◌then◌else◌}
 use Rattle.std.specs.List.{fold}
-use Rattle.space_heap.specs.declared.colour.Colour.{Colour}
-use Rattle.space_heap.specs.declared.colour.Colour.TheVariants.{White, Grey, Black}
 use Rattle.space_heap.specs.HeapView.{HeapView}
 use Rattle.space_heap.specs.Objects.{is_object, object_of}
 use Rattle.space_heap.specs.Marking.{colour_of, greyed, blackened}
+use Rattle.space_heap.specs.Sweeping.{is_white}
 
 -- the words of the fields of the object at an address
 abbrev pub fields_of : HeapView → ℕ → List ℕ
 fields_of v a = (object_of v a).fields
-
-abbrev pub is_white : Colour → Bool
-is_white White = true
-is_white Grey = false
-is_white Black = false
 
 -- a word was visited: a white object that it names is grey
 abbrev pub visited : HeapView → ℕ → HeapView

@@ -1,7 +1,7 @@
 // Scans of grey objects.
-ghost use Rattle.std.specs.Prelude.{◌≡◌, ◌≢◌, ◌<◌, ◌≤◌, ◌+◌, ◌-◌, ◌^◌, ℕ, true, [], length, take, slice_index_or};
+ghost use Rattle.std.specs.Prelude.{◌≡◌, ◌≢◌, ◌<◌, ◌≤◌, ◌+◌, ◌^◌, ℕ, true, [], take};
 ghost use Rattle.space_heap.specs.Objects.{stands};
-ghost use Rattle.space_heap.specs.Marking.{colour_of};
+ghost use Rattle.space_heap.specs.Marking.{colour_of, IsLastGrey};
 ghost use Rattle.space_major.specs.Scans.{fields_of, scanned};
 ghost use Rattle.space_major.specs.Marking.{GoesOn};
 
@@ -31,8 +31,7 @@ fn copy_fields<L: Ledger>(
 // Scans the last grey object.
 fn scan<L: Ledger>(heap: &mut Heap, address: u64, steps: &mut Steps<L>)
     requires object { stands heap.old address ≡ true }
-    requires grey { 0 < length heap.old.grey }
-    requires last { address ≡ slice_index_or heap.old.grey (length heap.old.grey - 1) 0 }
+    requires last { IsLastGrey heap.old address }
     requires ticks { steps.old + 1 < 2 ^ 64 }
     ensures scanned { heap.new ≡ scanned heap.old address }
     ensures ticks { steps.new ≡ steps.old + 1 }

@@ -1,7 +1,8 @@
 // Visits of words.
 ghost use Rattle.std.specs.Prelude.{◌≡◌};
 ghost use Rattle.space_roots.specs.WordRoots.{root_words};
-ghost use Rattle.space_major.specs.Scans.{is_white as is_white_colour, visited, visited_all};
+ghost use Rattle.space_heap.specs.Sweeping.{is_white as is_white_colour};
+ghost use Rattle.space_major.specs.Scans.{visited, visited_all};
 
 use space_heap::{Colour, Heap};
 use space_roots::Roots;

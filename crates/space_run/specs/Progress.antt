@@ -12,6 +12,8 @@ use Rattle.space_model.specs.Texts.{text_of, AreSpelled}
 use Rattle.space_engine.specs.Stands.{Stands}
 use Rattle.space_engine.specs.Views.{SpaceView}
 
+-- The lines given so far are commands, each was answered by lawful outputs, these were written, and the space stands for the
+-- state after them.
 pub record HasReplayed (limit : ℕ) (rest_before rest_after written_before written_after : Option (List ℕ)) (reading : Reading) (view : SpaceView) : Type 0 where
   pub bytes : List ℕ
   pub taken : Consumes rest_before rest_after bytes

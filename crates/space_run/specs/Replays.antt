@@ -19,11 +19,12 @@ IsReplayText texts limit =
     ((texts ≡ codes "replay" ∷ []) × (limit ≡ 256))
     ⊎ ((digits : List ℕ) × (texts ≡ codes "replay" ∷ codes "--pages" ∷ digits ∷ []) × IsNumber digits limit × (1 ≤ limit) × (limit ≤ 4096))
 
+-- the same of the words themselves
 abbrev pub IsReplay : List (String Global) → ℕ → Type 0
 IsReplay words limit = IsReplayText (map string_bytes words) limit
 
--- The source was read to its end, before as many bytes were taken as may be. The bytes taken are commands, and the bytes written are the text of outputs that
--- are lawful for exactly these commands, from the opening on.
+-- The source was read to its end, before as many bytes were taken as may be. The bytes taken are commands, and the bytes
+-- written are the text of outputs that are lawful for exactly these commands, from the opening on.
 pub record Replays (limit : ℕ) (rest_before rest_after written_before written_after : Option (List ℕ)) : Type 0 where
   pub bytes : List ℕ
   pub taken : Consumes rest_before rest_after bytes
@@ -121,7 +122,7 @@ pub record HasFailedWrite (limit : ℕ) (rest_before rest_after written_before w
   pub ending_is : IsEnding bytes lines ended ending
   pub front : AppendsPrefix written_before written_after (text_of outputs ++ ending)
 
--- the source tells its bytes, each line of which is lawful, and they are fewer than may be taken
+-- the source tells its bytes, each line of which is a command or blank, and they are fewer than may be taken
 pub record IsWholeInput (rest_before : Option (List ℕ)) : Type 0 where
   pub bytes : List ℕ
   pub told : rest_before ≡ Some bytes

@@ -6,10 +6,11 @@ use Rattle.std.proofs.lemmas.Bool.Decides.{nat_tests}
 use Rattle.space_model.specs.declared.event.Kind.{Kind}
 use Rattle.space_model.specs.declared.phase.Phase.{Phase}
 use Rattle.space_model.specs.Layout.{page_of}
-use Rattle.space_heap.specs.HeapView.{HeapView, slot_at, is_slot}
-use Rattle.space_heap.specs.Objects.{stands, object_of}
+use Rattle.space_heap.specs.HeapView.{HeapView}
+use Rattle.space_heap.specs.Objects.{object_of}
 use Rattle.space_heap.specs.SoundHeap.{IsSoundHeap}
 use Rattle.space_heap.specs.Sweeping.{is_gone, settled, swept, HasNoGone}
+use Rattle.space_heap.proofs.PhaseLaws.{stands-in_phase, object_of-in_phase}
 use Rattle.space_heap.proofs.SweptPages.{stands_pooled}
 use Rattle.space_heap.proofs.SettledLaws.{stands-settled, is_unswept-settled}
 use Rattle.space_heap.proofs.SweptLaws.{is_gone-swept_same, is_gone-swept_other, is_unswept-swept}
@@ -30,8 +31,7 @@ gone_wait-swept v page wait a g = ⊎_elim
     (cases_eq (page_of a) page)
 
 same_phase : (v : HeapView) (phase : Phase) (a : ℕ) → is_gone (record v { phase = phase }) a ≡ is_gone v a
-unfolding stands object_of slot_at is_slot
-same_phase v phase a = refl
+same_phase v phase a = rw (stands-in_phase v phase a, object_of-in_phase v phase a) refl
 
 -- after the sweep of the first page that waits
 pub gone_wait-first : (v w : HeapView) (freed : ℕ) → SweepsFirst v w freed → GoneWait v → GoneWait w

@@ -20,6 +20,7 @@ pub struct Dead {
 fn count_gone(heap: &Heap) -> u64
     ensures { CountIs (IsGone heap.now) result }
 {
+    // For its clause `sound`: each object's address is below 2^29.
     heap.page_count();
     let mut from = 0;
     let mut count = 0;

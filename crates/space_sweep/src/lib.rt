@@ -5,4 +5,4 @@ mod gone;
 mod pages;
 
 pub use gone::{Dead, next_gone, verdict};
-pub use pages::{first_unswept, sweep, unswept};
+pub use pages::{first_unswept, next_unswept, sweep, sweep_first, unswept};

@@ -6,8 +6,9 @@ ghost use Rattle.space_sweep.specs.Sweeps.{phase_left, IsFirstUnswept, IsNextUns
 use space_heap::Heap;
 use space_model::Phase;
 
-// The lowest page from this one on that waits for a sweep.
-fn next_unswept(heap: &Heap, from: u32) -> Option<u32>
+/// The lowest page from `from` on that waits for a sweep, or `None` where none does. It looks at no page
+/// below `from` or above its answer, so a walk over all that wait looks at each page once.
+pub fn next_unswept(heap: &Heap, from: u32) -> Option<u32>
     ensures next { MatchOption result ((page : ℕ) → from ≤ page → is_unswept heap.now page ≡ false) (IsNextUnswept heap.now from) }
 {
     let count = heap.page_count();
@@ -21,10 +22,12 @@ fn next_unswept(heap: &Heap, from: u32) -> Option<u32>
     None
 }
 
-/// The lowest page that waits for a sweep, or `None` where none does.
+/// The lowest page that waits for a sweep, or `None` where none does. It is sought from the first page
+/// on: who has swept up to some page asks `next_unswept`.
 pub fn first_unswept(heap: &Heap) -> Option<u32>
     ensures { MatchOption result (heap.now.unswept ≡ []) (IsFirstUnswept heap.now) }
 {
+    // For its clause `sound`: the pages that wait are listed in ascending order.
     heap.page_count();
     match next_unswept(heap, 0) {
         Some(page) => Some(page),
@@ -40,7 +43,7 @@ fn one_if(so: bool) -> u32
     u32::from(so)
 }
 
-/// How many pages wait for a sweep.
+/// How many pages wait for a sweep, for a command that sweeps some of them and tells how many are left.
 pub fn unswept(heap: &Heap) -> u32
     ensures { result ≡ length heap.now.unswept }
 {
@@ -51,34 +54,47 @@ pub fn unswept(heap: &Heap) -> u32
     count
 }
 
-// The phase after the sweep of a page.
-fn next_phase(heap: &Heap) -> Phase
+// The phase after the sweep of a page. None below `from` waits, so the search for another begins there.
+fn next_phase(heap: &Heap, from: u32) -> Phase
+    requires { (page : ℕ) → page < from → is_unswept heap.now page ≡ false }
     ensures { result ≡ phase_left heap.now.unswept heap.now.phase }
 {
-    match first_unswept(heap) {
+    // For its clause `sound`.
+    heap.page_count();
+    match next_unswept(heap, from) {
         Some(_) => heap.phase(),
         None => Phase::Idle,
     }
 }
 
+/// Does what `sweep` does for who knows the lowest page that waits, as from `next_unswept`. It looks at no
+/// page below it, and at those above only up to the next one that waits.
+pub fn sweep_first(heap: &mut Heap, page: u32) -> u64
+    requires first { IsFirstUnswept heap.old page }
+    requires few { heap.old.counters.freed < 2 ^ 62 }
+    ensures { SweepsFirst heap.old heap.new result }
+{
+    // For its clause `sound`.
+    heap.page_count();
+    let before = heap.freed();
+    heap.sweep_page(page);
+    let phase = next_phase(heap, page);
+    heap.set_phase(phase);
+    let after = heap.freed();
+    after - before
+}
+
 /// Sweeps the lowest page that waits for it, and it alone: the slots of its gone objects are free, and
 /// it is spare where no slot of it is taken then. After the last page nothing is under way. The answer
-/// is how many slots became free. It takes no memory.
+/// is how many slots became free. It takes no memory. The page is sought from the first one on: who
+/// knows it calls `sweep_first`.
 pub fn sweep(heap: &mut Heap) -> u64
     requires some { heap.old.unswept ≢ [] }
     requires few { heap.old.counters.freed < 2 ^ 62 }
     ensures { SweepsFirst heap.old heap.new result }
 {
-    heap.page_count();
     match first_unswept(heap) {
-        Some(page) => {
-            let before = heap.freed();
-            heap.sweep_page(page);
-            let phase = next_phase(heap);
-            heap.set_phase(phase);
-            let after = heap.freed();
-            after - before
-        }
+        Some(page) => sweep_first(heap, page),
         None => unreachable!(),
     }
 }
@@ -154,6 +170,7 @@ mod tests {
         assert!(rt; next_gone(&heap, 0x20001).is_none() && heap.object_at(0x10000).is_none());
         assert!(rt; heap.lowest_free(0).is_none() && heap.phase() == Phase::Sweeping);
         assert!(rt; first_unswept(&heap) == Some(0) && unswept(&heap) == 2);
+        assert!(rt; next_unswept(&heap, 1) == Some(1) && next_unswept(&heap, 2).is_none());
         assert!(rt; sweep_next(&mut heap) == Some(2));
         assert!(rt; heap.lowest_free(0) == Some(0x10000) && heap.phase() == Phase::Sweeping);
         assert!(rt; first_unswept(&heap) == Some(1) && unswept(&heap) == 1);

@@ -1,7 +1,7 @@
 // The calls of a marking.
-ghost use Rattle.std.specs.Prelude.{◌≡◌, ◌-◌, ◌*◌, ◌<◌, true, [], length, IfSome, IfNone, slice_index_or};
+ghost use Rattle.std.specs.Prelude.{◌≡◌, ◌*◌, true, [], length, IfSome, IfNone};
 ghost use Rattle.space_heap.specs.Objects.{is_object};
-ghost use Rattle.space_heap.specs.Marking.{colour_of, greyed, blackened, unmarked, IsCoherent, HasAtMost};
+ghost use Rattle.space_heap.specs.Marking.{colour_of, greyed, blackened, unmarked, IsLastGrey, IsCoherent, HasAtMost};
 
 use crate::colour::Colour;
 use crate::heap::Heap;
@@ -17,10 +17,11 @@ impl Heap {
         self.grey.len() as u64
     }
 
-    /// The address of the object that became grey last, or `None` where none is grey.
+    /// The address of the object that became grey last, or `None` where none is grey. The clauses
+    /// `coherent` and `most` hold of every heap.
     pub fn last_grey(&self) -> Option<u64>
         ensures none { IfNone result (self.now.grey ≡ []) }
-        ensures some { IfSome result (λ a. (0 < length self.now.grey) × (a ≡ slice_index_or self.now.grey (length self.now.grey - 1) 0)) }
+        ensures some { IfSome result (IsLastGrey self.now) }
         ensures coherent { IsCoherent self.now }
         ensures most { HasAtMost self.now (1638 * 4096) }
     {
@@ -46,8 +47,7 @@ impl Heap {
 
     /// The object that became grey last is black now.
     pub fn blacken(&mut self, address: u64)
-        requires grey { 0 < length self.old.grey }
-        requires last { address ≡ slice_index_or self.old.grey (length self.old.grey - 1) 0 }
+        requires { IsLastGrey self.old address }
         ensures { self.new ≡ blackened self.old address }
     {
         match slot_place(&self.pools, address) {

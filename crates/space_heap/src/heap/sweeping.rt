@@ -63,8 +63,8 @@ impl Heap {
         self.freed
     }
 
+    /// Whether the page waits for a sweep. A spare one doesn't.
     #[tactic(auto, using(crate::proofs::Unswept::waiting))]
-    /// Whether the page waits for a sweep.
     pub fn page_unswept(&self, page: u32) -> bool
         requires { page < length self.now.pages }
         ensures { result ≡ is_unswept self.now page }
@@ -72,8 +72,8 @@ impl Heap {
         self.pools.page_unswept(page)
     }
 
-    #[tactic(auto, using(crate::proofs::SettledSlots::phases))]
     /// Changes the phase.
+    #[tactic(auto, using(crate::proofs::SettledSlots::phases))]
     pub fn set_phase(&mut self, phase: Phase)
         ensures { self.new ≡ record self.old { phase = phase } }
     {

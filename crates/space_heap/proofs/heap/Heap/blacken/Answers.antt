@@ -23,10 +23,10 @@ standing : (h : Inside) (v : HeapView) (a : ℕ) → view_from h ≡ v → IsHea
 standing h v a is inv some last = stands_from_object v a (last_is_object v a (subst IsCoherent is inv.coherent) some last)
 
 some : (c : goal.After-pop) → 0 < length (view_from c.self.inside).grey
-some c = subst (λ (v : HeapView). 0 < length v.grey) (sym c.self.view_is) c.requires.grey
+some c = subst (λ (v : HeapView). 0 < length v.grey) (sym c.self.view_is) c.requires.0
 
 last : (c : goal.After-pop) → c.args.address ≡ get_or (view_from c.self.inside).grey (length (view_from c.self.inside).grey - 1) 0
-last c = subst (λ (v : HeapView). c.args.address ≡ get_or v.grey (length v.grey - 1) 0) (sym c.self.view_is) c.requires.last
+last c = subst (λ (v : HeapView). c.args.address ≡ get_or v.grey (length v.grey - 1) 0) (sym c.self.view_is) c.requires.1
 
 here : (c : goal.After-pop) → stands (view_from c.self.inside) c.args.address ≡ true
 here c = standing c.self.inside (view_from c.self.inside) c.args.address refl c.self.invariant (some c) (last c)
@@ -57,7 +57,7 @@ invariant_of-self c =
     }
 
 pub unreachable-requires : goal.unreachable-requires
-unreachable-requires c = never c.self.inside _ c.self.view_is _ (standing c.self.inside _ _ c.self.view_is c.self.invariant c.requires.grey c.requires.last) c.in-None.ensures.place
+unreachable-requires c = never c.self.inside _ c.self.view_is _ (standing c.self.inside _ _ c.self.view_is c.self.invariant c.requires.0 c.requires.1) c.in-None.ensures.place
 
 pub returns : goal.returns
 returns c = view c ∙ ap (λ v. blackened v c.args.address) c.self.view_is
