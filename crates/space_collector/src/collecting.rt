@@ -4,6 +4,7 @@ ghost use Rattle.space_io.specs.Causes.{HasCause};
 ghost use Rattle.space_roots.specs.WordRoots.{root_words};
 ghost use Rattle.space_collector.specs.HeapCollections.{IsToldCollection, IsCutCollection};
 ghost use Rattle.space_collector.specs.Tidy.{CanCollect, IsOneVerdict};
+ghost use Rattle.space_collector.specs.Ticks.{RisesByFewer};
 
 use crate::sweeping::sweep_all;
 use crate::telling::tell_verdict;
@@ -41,7 +42,7 @@ pub fn collect<K: Sink, L: Ledger>(
     ensures page_count { length heap.new.pages ≡ length heap.old.pages }
     ensures limit { heap.new.limit ≡ heap.old.limit }
     ensures ticked { IfOk result (λ collected. steps.new ≡ steps.old + collected.scans) }
-    ensures steps { (steps.old ≤ steps.new) × (steps.new < steps.old + 2 ^ 26) }
+    ensures steps { RisesByFewer steps.old steps.new }
 {
     let scans = whole(heap, roots, stack, steps);
     let gone = verdict(heap, Kind::Full);

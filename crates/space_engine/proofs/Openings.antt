@@ -1,5 +1,5 @@
 -- A space before the first command.
-use Rattle.std.proofs.Common.{◌≡◌, ℕ, true≢false, refl, sym, ◌∙◌, Option, None, Some}
+use Rattle.std.proofs.Common.{ℕ, true≢false, refl, sym, ◌∙◌}
 use Rattle.std.specs.Ordering.{nat_cmp}
 use Rattle.std.specs.FinMap.{get-empty}
 use Rattle.space_model.specs.Places.{IsFree}

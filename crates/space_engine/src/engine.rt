@@ -3,6 +3,7 @@ ghost use Rattle.std.specs.Prelude.{◌≡◌, ◌≤◌, ◌<◌, ◌+◌, ◌^
 ghost use Rattle.space_io.specs.Causes.{HasCause};
 ghost use Rattle.space_model.specs.Sound.{IsGivenSmall};
 ghost use Rattle.space_model.specs.State.{opening};
+ghost use Rattle.space_collector.specs.Ticks.{RisesByFewer};
 ghost use Rattle.space_engine.specs.Answered.{IsAnswered, IsCutOff};
 ghost use Rattle.space_engine.specs.Stands.{Holds};
 ghost use Rattle.space_engine.specs.Ticks.{IsTicked};
@@ -84,7 +85,7 @@ impl Engine {
         ensures cause { HasCause (K.faults sink.old) (K.faults sink.new) result }
         ensures scans { IfOk result (λ answer. IsTicked answer.reply steps.old steps.new) }
         ensures goes_on { GoesOn self.old.heap self.new.heap }
-        ensures steps { (steps.old ≤ steps.new) × (steps.new < steps.old + 2 ^ 26) }
+        ensures steps { RisesByFewer steps.old steps.new }
     {
         let collected = collect(&mut self.heap, &self.roots, &self.stack, sink, steps)?;
         Ok(Answer {
@@ -111,7 +112,7 @@ impl Engine {
         ensures cause { HasCause (K.faults sink.old) (K.faults sink.new) result }
         ensures scans { command.now ≡ Command.Gc → IfOk result (λ answer. IsTicked answer.reply steps.old steps.new) }
         ensures goes_on { GoesOn self.old.heap self.new.heap }
-        ensures steps { (steps.old ≤ steps.new) × (steps.new < steps.old + 2 ^ 26) }
+        ensures steps { RisesByFewer steps.old steps.new }
     {
         let reply = match command {
             Command::New {

@@ -5,6 +5,7 @@ ghost use Rattle.space_io.specs.Sinks.{AppendsPrefix};
 ghost use Rattle.space_model.specs.Sound.{IsGivenSmall};
 ghost use Rattle.space_model.specs.State.{State, opening};
 ghost use Rattle.space_model.specs.Texts.{text_of};
+ghost use Rattle.space_collector.specs.Ticks.{RisesByFewer};
 ghost use Rattle.space_engine.specs.Stands.{Stands};
 ghost use Rattle.space_engine.specs.Steps.{AreDone, Steps as LawfulSteps};
 ghost use Rattle.space_engine.specs.Views.{empty_space};
@@ -47,7 +48,8 @@ impl Model for Space {
 impl Space {
     /// The space before the first command, with so many pages at most.
     pub fn new(alloc: Global, limit: u32) -> Result<Space, NoMemory>
-        requires { (1 ≤ limit) × (limit ≤ 4096) }
+        requires some { 1 ≤ limit }
+        requires most { limit ≤ 4096 }
         ensures view { IfOk result (λ space. space ≡ empty_space limit) }
         ensures stands { IfOk result (λ space. Stands space (opening limit)) }
     {
@@ -92,7 +94,7 @@ impl Space {
         ensures cause { HasCause (K.faults sink.old) (K.faults sink.new) result }
         ensures spent { self.new.is_spent ≡ is_err result }
         ensures turns { self.new.turns ≡ self.old.turns + 1 }
-        ensures steps { (steps.old ≤ steps.new) × (steps.new < steps.old + 2 ^ 26) }
+        ensures steps { RisesByFewer steps.old steps.new }
     {
         self.turns += 1;
         let answer = match self.engine.answer(command, sink, steps) {

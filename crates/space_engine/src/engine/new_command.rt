@@ -6,6 +6,7 @@ ghost use Rattle.space_model.specs.Layout.{pool_for as pool_of_fields};
 ghost use Rattle.space_roots.specs.WordRoots.{root_word};
 ghost use Rattle.space_engine.specs.Answered.{IsAnswered, IsCutOff};
 ghost use Rattle.space_collector.specs.Births.{IsBirth, LacksRoom, WantsPage};
+ghost use Rattle.space_collector.specs.Ticks.{RisesByFewer};
 ghost use Rattle.space_engine.specs.Births.{IsLastReply, IsRootedBirth};
 ghost use Rattle.space_engine.specs.Turns.{CanAnswer, GoesOn};
 ghost use Rattle.space_engine.specs.Views.{with_heap, with_root_dropped, with_root_reserved, with_root_written};
@@ -152,7 +153,7 @@ impl Engine {
         ensures fault { OnErr result (IsCutOff self.old self.new (New root.now fields guard style) (K.written sink.old) (K.written sink.new)) }
         ensures cause { HasCause (K.faults sink.old) (K.faults sink.new) result }
         ensures goes_on { GoesOn self.old.heap self.new.heap }
-        ensures steps { (steps.old ≤ steps.new) × (steps.new < steps.old + 2 ^ 26) }
+        ensures steps { RisesByFewer steps.old steps.new }
     {
         let is_new = match self.reserve_root(root) {
             Ok(is_new) => is_new,
@@ -183,7 +184,7 @@ impl Engine {
         ensures fault { OnErr result (IsCutOff self.old self.new (New root.now fields guard style) (K.written sink.old) (K.written sink.new)) }
         ensures cause { HasCause (K.faults sink.old) (K.faults sink.new) result }
         ensures goes_on { GoesOn self.old.heap self.new.heap }
-        ensures steps { (steps.old ≤ steps.new) × (steps.new < steps.old + 2 ^ 26) }
+        ensures steps { RisesByFewer steps.old steps.new }
     {
         let Some(_) = pool_for(fields) else {
             let why = Refusal::TooLarge;

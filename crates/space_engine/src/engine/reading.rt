@@ -5,6 +5,7 @@ ghost use Rattle.space_model.specs.Operands.{input_value, named_by, operand_valu
 ghost use Rattle.space_model.specs.Sound.{IsSmallInput};
 ghost use Rattle.space_model.specs.State.{State};
 ghost use Rattle.space_heap.specs.Objects.{stands, object_of};
+ghost use Rattle.space_collector.specs.Ticks.{RisesByOneAtMost};
 ghost use Rattle.space_engine.specs.Stands.{Holds};
 ghost use Rattle.space_engine.specs.Words.{operand_word, word_result, owner_of_field, field_word};
 
@@ -107,7 +108,7 @@ impl Engine {
     ) -> Result<u64, Refusal>
         requires { steps.old < 2 ^ 62 }
         ensures word { result ≡ field_word self.now.heap word index }
-        ensures steps { (steps.old ≤ steps.new) × (steps.new ≤ steps.old + 1) }
+        ensures steps { RisesByOneAtMost steps.old steps.new }
     {
         match self.owner_of(word, index) {
             Ok(address) => Ok(self.heap.field(address, index, steps)),
@@ -124,7 +125,7 @@ impl Engine {
     ) -> Result<u64, Refusal>
         requires { steps.old < 2 ^ 62 }
         ensures word { (s : State) → Holds self.now s → result ≡ word_result s.heap.place (field_value s.graph (operand_value s object.now) index) }
-        ensures steps { (steps.old ≤ steps.new) × (steps.new ≤ steps.old + 1) }
+        ensures steps { RisesByOneAtMost steps.old steps.new }
     {
         match self.word_of(object) {
             Ok(word) => self.field_of(word, index, steps),

@@ -1,4 +1,3 @@
-use Rattle.std.proofs.Common.{Result, Ok, Err, OnErr}
 use Rattle.space_engine.specs.Inside.{view_of}
 use Rattle.space_engine.proofs.ToldCollections.{answered_from, cut_from}
 use Rattle.space_engine.proofs.Outcomes.{on_err}

@@ -1,4 +1,4 @@
-use Rattle.std.proofs.Common.{◌∙◌, Result, Ok, Err, OnErr}
+use Rattle.std.proofs.Common.{◌∙◌}
 use Rattle.space_engine.specs.Inside.{view_of}
 use Rattle.space_engine.proofs.Answering.{not_made}
 use Rattle.space_engine.proofs.LimitBirths.{answered_from, cut_from, goes_on_from, born_from_one}
