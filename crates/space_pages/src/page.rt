@@ -48,7 +48,7 @@ fn slot_start(pool: u8, s: u32) -> usize
 
 impl SlotPage {
     #[tactic(auto, unfolding(crate::specs::Slots::blank_page))]
-    /// A page whose words are all 0. No other call takes memory.
+    /// A page whose words are all 0. An `Err` says that there was no memory for it. No other call takes memory.
     pub fn new(alloc: Global) -> Result<SlotPage, NoMemory>
         ensures { IfOk result (λ page. page ≡ blank_page) }
     {
@@ -85,7 +85,8 @@ impl SlotPage {
         &self.words[start..start + slot_len(pool)]
     }
 
-    /// The words of a slot to be written, on a page of this pool.
+    /// The words of a slot to be written, on a page of this pool. The clause `writes_back`: the page ends with
+    /// the words that the caller leaves in the slot, and the others stay.
     pub fn slot_mut(&mut self, pool: u8, s: u32) -> &mut [u64]
         requires pool { pool < POOLS }
         requires slot { s < slots_of_page pool }
