@@ -27,7 +27,8 @@ impl Model for Plane {
 }
 
 impl Plane {
-    /// A plane of so many bits. It takes the memory for `MOST_BITS` bits, and no other call takes any.
+    /// A plane of so many bits, which are all 0. It takes the memory for `MOST_BITS` bits, and no other call
+    /// takes any. An `Err` says that there was none.
     pub fn new(alloc: Global, bits: u32) -> Result<Plane, NoMemory>
         requires { bits ≤ MOST_BITS }
         ensures { IfOk result (λ plane. plane ≡ replicate bits false) }
@@ -39,7 +40,7 @@ impl Plane {
         Ok(plane)
     }
 
-    /// Makes it a plane of so many bits. It takes no memory.
+    /// Makes it a plane of so many bits, which are all 0. It takes no memory.
     pub fn reset(&mut self, bits: u32)
         requires { bits ≤ MOST_BITS }
         ensures { self.new ≡ replicate bits false }
