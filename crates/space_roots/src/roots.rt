@@ -51,7 +51,7 @@ impl Roots {
     }
 
     /// Makes sure that there is such a root, so that a `set` of it can't fail. A new one comes last, with the word 0. The answer is
-    /// whether it is new.
+    /// whether it is new. Only a new one wants memory, and an `Err` changes nothing.
     pub fn reserve_for(&mut self, name: Ident) -> Result<bool, NoMemory>
         ensures answer { IfOk result (λ added. added ≡ is_none (root_word self.old name)) }
         ensures added { result ≡ Ok true → self.new ≡ self.old ++ (name, 0) ∷ [] }
