@@ -8,8 +8,8 @@ use Rattle.space_pools.specs.Sound.{IsSoundPools}
 use Rattle.space_heap.specs.declared.marks.Marks.{Marks}
 use Rattle.space_heap.specs.HeapView.{PageView, HeapView, no_page, is_start, is_slot}
 use Rattle.space_heap.specs.Objects.{is_object}
-use Rattle.space_heap.specs.MarkPlanes.{marks_at}
-use Rattle.space_heap.specs.NextObject.{HasNoObjectFrom, IsNextObject, is_present, IsAbsentFrom, IsFirstPresent, IsPageClear, IsNextOnPage}
+use Rattle.space_heap.specs.MarkPlanes.{marks_at, is_present, IsAbsentFrom, IsFirstPresent}
+use Rattle.space_heap.specs.NextObject.{HasNoObjectFrom, IsNextObject, IsPageClear, IsNextOnPage}
 use Rattle.space_heap.specs.SlotPlaces.{is_slot_of, IsSlotAt}
 use Rattle.space_heap.specs.Inside.{view_with, AreAllMarks, Rest}
 use Rattle.space_heap.specs.Slots.{has_present}

@@ -4,6 +4,7 @@ use Rattle.space_model.specs.Layout.{page_of, page_slots}
 use Rattle.space_heap.specs.Slots.{is_free}
 use Rattle.space_heap.specs.HeapView.{HeapView, is_start, is_slot, is_unswept, slot_at, pool_with}
 
+-- whether a page, by the pool that it has, is one of this pool
 abbrev pub is_pool : Option ℕ → ℕ → Bool
 is_pool None pool = false
 is_pool (Some own) pool = nat_eq own pool
@@ -17,6 +18,7 @@ is_slot_in (Some own) pool a = nat_eq own pool && is_start (Some own) (page_slot
 unfoldable pub is_free_at : HeapView → ℕ → ℕ → Bool
 is_free_at v pool a = is_slot v a && (is_pool (pool_with v a) pool && (is_free (slot_at v a) && not (is_unswept v (page_of a))))
 
+-- the address is free for the pool
 abbrev pub IsFreeAt : HeapView → ℕ → ℕ → Type 0
 IsFreeAt v pool a = is_free_at v pool a ≡ true
 

@@ -11,6 +11,7 @@ pub record PageView : Type 0 where
   pub pool : Option ℕ
   pub slots : List SlotView
 
+-- how many births, minor verdicts, major and full verdicts, freed slots, compactions and moves there were
 pub record Counters : Type 0 where
   -- how many objects were ever born, which is the last name too
   pub born : ℕ
@@ -20,6 +21,7 @@ pub record Counters : Type 0 where
   pub compactions : ℕ
   pub moves : ℕ
 
+-- a heap as callers see it
 pub record HeapView : Type 0 where
   -- the most pages
   pub limit : ℕ
@@ -28,10 +30,13 @@ pub record HeapView : Type 0 where
   pub unswept : List ℕ
   -- the addresses of the grey objects, in the order in which they became grey
   pub grey : List ℕ
+  -- what the collector is at
   pub phase : Phase
+  -- where a compaction has come to; 0 until there is one
   pub cursor : ℕ
   pub counters : Counters
 
+-- nothing was counted yet
 abbrev pub no_counters : Counters
 no_counters = record { born = 0; minor_verdicts = 0; other_verdicts = 0; freed = 0; compactions = 0; moves = 0 }
 
@@ -39,6 +44,7 @@ no_counters = record { born = 0; minor_verdicts = 0; other_verdicts = 0; freed =
 abbrev pub empty_heap : ℕ → HeapView
 empty_heap limit = record { limit = limit; pages = []; unswept = []; grey = []; phase = Idle; cursor = 0; counters = no_counters }
 
+-- a spare page, which has no slots; it is read where there is no page
 abbrev pub no_page : PageView
 no_page = record { pool = None; slots = [] }
 

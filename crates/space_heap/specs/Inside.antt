@@ -13,15 +13,19 @@ use Rattle.space_heap.specs.HeapView.{PageView, Counters, HeapView, no_counters}
 use Rattle.space_heap.specs.MarkPlanes.{marks_at, AreWide, slot_from}
 use Rattle.space_heap.specs.Marking.{IsCoherent}
 
+-- a slot of a page, by the words of the page and its planes
 abbrev pub slot_in : PageSlots → Marks → ℕ → SlotView
 slot_in p m s = slot_from (found_in p s) m s
 
+-- a page, by its words and its planes
 abbrev pub page_from : PageSlots → Marks → PageView
 page_from p m = record { pool = p.pool; slots = map (slot_in p m) (range_with_len 0 (length p.slots)) }
 
+-- the page with this number, by the pools and all planes
 abbrev pub page_in : PoolsView → List Marks → ℕ → PageView
 page_in v marks page = page_from (page_at v page) (marks_at marks page)
 
+-- all pages, by the pools and all planes
 abbrev pub pages_from : PoolsView → List Marks → List PageView
 pages_from v marks = map (page_in v marks) (range_with_len 0 (length v.pages))
 
@@ -29,16 +33,18 @@ pages_from v marks = map (page_in v marks) (range_with_len 0 (length v.pages))
 abbrev pub unswept_in : PoolsView → List ℕ
 unswept_in v = filter (unswept_at v) (range_with_len 0 (length v.pages))
 
--- what a heap's view has besides its pages
+-- what a heap's view has besides what its pools and its planes tell
 pub record Rest : Type 0 where
   pub grey : List ℕ
   pub phase : Phase
   pub cursor : ℕ
   pub counters : Counters
 
+-- what the fields of a heap tell besides its pools and its planes
 abbrev pub rest_of : Inside → Rest
 rest_of h = record { grey = h.grey.items; phase = h.phase; cursor = 0; counters = record no_counters { born = h.born; minor_verdicts = h.minor_verdicts; other_verdicts = h.other_verdicts; freed = h.freed } }
 
+-- the view of these pools and planes, with this rest
 abbrev pub view_with : PoolsView → List Marks → Rest → HeapView
 view_with v marks rest = record {
   limit = v.limit;
@@ -50,6 +56,7 @@ view_with v marks rest = record {
   counters = rest.counters;
 }
 
+-- the view of a heap, by its fields
 abbrev pub view_from : Inside → HeapView
 view_from h = view_with h.pools h.marks.items (rest_of h)
 
@@ -60,14 +67,17 @@ pub record FitsSlot (found : Option (List ℕ)) (m : Marks) (s : ℕ) : Type 0 w
   pub words : (words : List ℕ) → found ≡ Some words → bit m.moved s ≡ false → AreObjectWords words
   pub dead : bit m.dead s ≡ true → bit m.object s ≡ true
 
+-- the planes have one bit for each slot of the page, and fit what is found in each
 pub record AreMarksOf (p : PageSlots) (m : Marks) : Type 0 where
   pub wide : AreWide m (length p.slots)
   pub each : (s : ℕ) → FitsSlot (found_in p s) m s
 
+-- there are planes for each page, and they fit it
 pub record AreAllMarks (v : PoolsView) (marks : List Marks) : Type 0 where
   pub all : length marks ≡ length v.pages
   pub of_page : (page : ℕ) → AreMarksOf (page_at v page) (marks_at marks page)
 
+-- what holds of the fields of every heap
 pub record IsHeap (h : Inside) : Type 0 where
   pub marks : AreAllMarks h.pools h.marks.items
   pub room : h.pools.limit ≤ vec_capacity h.marks

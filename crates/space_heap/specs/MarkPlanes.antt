@@ -1,5 +1,5 @@
 -- What the planes of a page tell of a slot.
-use Rattle.std.specs.Prelude.{◌≡◌, ℕ, ◌+◌, Bool, true, false, List, length, replicate, Option, None, Some, slice_index_or, slice_set, if◌then◌else◌}
+use Rattle.std.specs.Prelude.{◌≡◌, ℕ, ◌+◌, ◌<◌, ◌≤◌, Bool, true, false, not, ◌&&◌, List, length, replicate, Option, None, Some, slice_index_or, slice_set, if◌then◌else◌}
 use Rattle.space_model.specs.declared.object.Guard.{Guard}
 use Rattle.space_model.specs.declared.object.Guard.TheVariants.{Protected, Unprotected}
 use Rattle.space_planes.specs.Planes.{bit}
@@ -44,16 +44,20 @@ pub record AreWide (m : Marks) (n : ℕ) : Type 0 where
   pub pinned : length m.pinned ≡ n
   pub dead : length m.dead ≡ n
 
+-- the bit of a guard: 1 where the write barrier doesn't protect the object
 abbrev pub is_unprotected : Guard → Bool
 is_unprotected Protected = false
 is_unprotected Unprotected = true
 
+-- the guard by its bit
 abbrev pub guard_from : Bool → Guard
 guard_from unprotected = if unprotected then Unprotected else Protected
 
+-- the colour by its two bits
 abbrev pub colour_from : Bool → Bool → Colour
 colour_from marked black = if marked then (if black then Black else Grey) else White
 
+-- the age, 0 to 3, by its two bits
 abbrev pub age_from : Bool → Bool → ℕ
 age_from low high = (if low then 1 else 0) + (if high then 2 else 0)
 
@@ -112,3 +116,18 @@ taken_from words moved t = if moved then Moved (word_at words 1) else Object (ob
 abbrev pub slot_from : Option (List ℕ) → Marks → ℕ → SlotView
 slot_from None m s = Free
 slot_from (Some words) m s = taken_from words (bit m.moved s) (traits_from m s)
+
+-- whether the slot holds an object that isn't gone
+abbrev pub is_present : Marks → ℕ → Bool
+is_present m s = bit m.object s && not (bit m.dead s)
+
+-- no slot from s on holds an object that isn't gone
+abbrev pub IsAbsentFrom : Marks → ℕ → Type 0
+IsAbsentFrom m s = (k : ℕ) → s ≤ k → is_present m k ≡ false
+
+-- k is the first slot from s on that holds an object that isn't gone
+pub record IsFirstPresent (m : Marks) (s k : ℕ) : Type 0 where
+  pub from_start : s ≤ k
+  pub within : k < length m.object
+  pub is : is_present m k ≡ true
+  pub before : (j : ℕ) → s ≤ j → j < k → is_present m j ≡ false

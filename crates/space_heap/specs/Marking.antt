@@ -12,7 +12,7 @@ use Rattle.space_heap.specs.Objects.{stands, is_object, object_of, with_object}
 abbrev pub colour_of : HeapView → ℕ → Colour
 colour_of v a = (object_of v a).colour
 
--- the object got this colour
+-- the object after it got this colour
 abbrev pub with_colour : ObjectView → Colour → ObjectView
 with_colour o c = record o { colour = c }
 
@@ -20,7 +20,7 @@ with_colour o c = record o { colour = c }
 unfoldable pub painted : HeapView → ℕ → Colour → List ℕ → HeapView
 painted v a c grey = record (with_object v a (with_colour (object_of v a) c)) { grey = grey }
 
--- the object is grey now, the last that became so
+-- the heap after the object became grey, the last that became so
 abbrev pub greyed : HeapView → ℕ → HeapView
 greyed v a = painted v a Grey (v.grey ++ a ∷ [])
 
@@ -28,23 +28,25 @@ greyed v a = painted v a Grey (v.grey ++ a ∷ [])
 abbrev pub IsLastGrey : HeapView → ℕ → Type 0
 IsLastGrey v a = (0 < length v.grey) × (a ≡ slice_index_or v.grey (length v.grey - 1) 0)
 
--- the object, which was the last grey one, is black now
+-- the heap after the object, which was the last grey one, became black
 abbrev pub blackened : HeapView → ℕ → HeapView
 blackened v a = painted v a Black (take (length v.grey - 1) v.grey)
 
--- the object is white, and neither remembered nor kept
+-- the object after its marks were taken away: it is white, and neither remembered nor kept
 abbrev pub whitened : ObjectView → ObjectView
 whitened o = record o { colour = White; remembered = false; kept = false }
 
+-- the slot after the marks of its object were taken away
 abbrev pub unmarked_slot : SlotView → SlotView
 unmarked_slot Free = Free
 unmarked_slot (Moved to) = Moved to
 unmarked_slot (Object o) = Object (whitened o)
 
+-- the page after all marks were taken away
 abbrev pub unmarked_page : PageView → PageView
 unmarked_page p = record p { slots = map unmarked_slot p.slots }
 
--- each object, gone or not, is white, and neither remembered nor kept
+-- the heap after all marks were taken away: each object, gone or not, is white, and neither remembered nor kept
 unfoldable pub unmarked : HeapView → HeapView
 unmarked v = record v { pages = map unmarked_page v.pages; grey = [] }
 

@@ -7,6 +7,7 @@ use Rattle.space_model.specs.declared.object.Style.TheVariants.{Movable, Keeping
 abbrev pub word_at : List ℕ → ℕ → ℕ
 word_at words k = slice_index_or words k 0
 
+-- the number that stands for a style in the first word
 abbrev pub style_number : Style → ℕ
 style_number Movable = 0
 style_number Keeping = 1

@@ -7,6 +7,7 @@ use Rattle.space_model.specs.declared.object.Style.TheVariants.{Movable}
 use Rattle.space_heap.specs.declared.colour.Colour.{Colour}
 use Rattle.space_heap.specs.declared.colour.Colour.TheVariants.{White}
 
+-- an object as callers see it
 pub record ObjectView : Type 0 where
   pub name : ℕ
   pub guard : Guard
@@ -21,6 +22,7 @@ pub record ObjectView : Type 0 where
   -- whether a verdict found it to be gone
   pub gone : Bool
 
+-- a slot: free, left by an object that was moved to an address, or with an object
 pub data SlotView : Type 0 where
   Free : SlotView
   Moved : (to : ℕ) → SlotView

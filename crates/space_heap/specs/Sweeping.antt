@@ -18,17 +18,17 @@ is_white White = true
 is_white Grey = false
 is_white Black = false
 
--- an object is gone where it is white
+-- the object after a verdict: it is gone where it is white
 abbrev pub settled_object : ObjectView → ObjectView
 settled_object o = record o { gone = is_white o.colour }
 
--- a slot after a verdict
+-- the slot after a verdict
 abbrev pub settled_slot : SlotView → SlotView
 settled_slot Free = Free
 settled_slot (Moved to) = Moved to
 settled_slot (Object o) = Object (settled_object o)
 
--- a page after a verdict
+-- the page after a verdict
 abbrev pub settled_page : PageView → PageView
 settled_page p = record p { slots = map settled_slot p.slots }
 
@@ -78,13 +78,13 @@ IsGoneOn v page a = (is_gone v a ≡ true) × (page_of a ≡ page)
 abbrev pub has_gone : SlotView → Bool
 has_gone slot = has_object slot && (object_in slot).gone
 
--- the slot is free where its object was gone
+-- the slot after a sweep: it is free where its object was gone
 abbrev pub swept_slot : SlotView → SlotView
 swept_slot Free = Free
 swept_slot (Moved to) = Moved to
 swept_slot (Object o) = if o.gone then Free else Object o
 
--- the page with these slots; where all are free it is spare
+-- the page with this pool and these slots; where all are free it is spare
 abbrev pub page_with_slots : Option ℕ → List SlotView → PageView
 page_with_slots pool slots = if list_all is_free slots then no_page else record { pool = pool; slots = slots }
 

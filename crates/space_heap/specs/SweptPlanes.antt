@@ -8,15 +8,15 @@ use Rattle.space_heap.specs.declared.marks.Marks.{Marks}
 use Rattle.space_heap.specs.Inside.{page_in, pages_from, unswept_in, AreAllMarks}
 use Rattle.space_heap.specs.Sweeping.{swept_page}
 
--- the objects that aren't marked are gone
+-- the planes after a verdict: the objects that aren't marked are gone
 abbrev pub settled_marks : Marks → Marks
 settled_marks m = record m { dead = set_in_first_only m.object m.marked }
 
--- the slots of the gone objects hold none any more
+-- the planes after a sweep: the slots of the gone objects hold none any more
 abbrev pub buried_marks : Marks → Marks
 buried_marks m = record m { object = set_in_first_only m.object m.dead; dead = replicate (length m.dead) false }
 
--- the page waits for a sweep where it has a pool
+-- the page after a verdict: it waits for a sweep where it has a pool
 abbrev pub waiting_page : PageSlots → PageSlots
 waiting_page p = record p { unswept = is_some p.pool }
 

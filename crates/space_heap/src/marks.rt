@@ -1,9 +1,8 @@
 // The planes of one page, which tell all of its slots but their words.
 ghost use Rattle.std.specs.Prelude.{◌≡◌, ◌<◌, ◌≤◌, ℕ, true, false, [], ◌∷◌, ◌++◌, not, ◌&&◌, length, map, slice_set, vec_capacity, IfOk, MatchOption};
 ghost use Rattle.space_planes.specs.Planes.{bit};
-ghost use Rattle.space_heap.specs.MarkPlanes.{clear_marks, AreWide, born_marks, traits_from, marks_at, guard_from, is_unprotected, colour_from, age_from};
+ghost use Rattle.space_heap.specs.MarkPlanes.{clear_marks, AreWide, born_marks, traits_from, marks_at, guard_from, is_unprotected, colour_from, age_from, IsAbsentFrom, IsFirstPresent};
 ghost use Rattle.space_heap.specs.PaintedMarks.{painted_marks, unmarked_marks};
-ghost use Rattle.space_heap.specs.NextObject.{IsAbsentFrom, IsFirstPresent};
 
 use crate::colour::Colour;
 use space_model::Guard;

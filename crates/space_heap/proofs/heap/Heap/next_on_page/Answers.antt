@@ -1,7 +1,8 @@
 use Rattle.std.proofs.Common.{◌≡◌, length, ap, subst, arith, rules, Some, None}
 use Rattle.space_pools.specs.PoolsView.{pool_at}
 use Rattle.space_heap.specs.HeapView.{HeapView}
-use Rattle.space_heap.specs.NextObject.{IsAbsentFrom, IsFirstPresent, IsPageClear, IsNextOnPage}
+use Rattle.space_heap.specs.MarkPlanes.{IsAbsentFrom, IsFirstPresent}
+use Rattle.space_heap.specs.NextObject.{IsPageClear, IsNextOnPage}
 use Rattle.space_heap.specs.Inside.{rest_of}
 use Rattle.space_heap.proofs.Views.{length-pages_from}
 use Rattle.space_heap.proofs.NextObjects.{clear_spare, clear_page, next_here}
