@@ -154,7 +154,8 @@ impl Heap {
     // What the planes tell of the object at an address.
     fn traits(&self, address: u64) -> Traits
         requires { stands self.now address ≡ true }
-        ensures { result ≡ traits_of (object_of self.now address) }
+        ensures traits { result ≡ traits_of (object_of self.now address) }
+        ensures most { result.age ≤ 3 }
     {
         match slot_place(&self.pools, address) {
             Some((page, slot)) => marks_of(&self.marks, page).traits(slot),
@@ -190,10 +191,11 @@ impl Heap {
         style_in(self.words(address)[0])
     }
 
-    /// How many fields it has, 78 at most.
+    /// How many fields it has.
     pub fn field_count(&self, address: u64) -> u64
         requires { stands self.now address ≡ true }
-        ensures { result ≡ length (object_of self.now address).fields }
+        ensures count { result ≡ length (object_of self.now address).fields }
+        ensures few { result ≤ MOST_FIELDS }
     {
         self.words(address)[0] / 256
     }
@@ -214,10 +216,11 @@ impl Heap {
         self.traits(address).colour
     }
 
-    /// Its age, 0 to 3; it is old at 3 (CRuby 3.3).
+    /// Its age; it is old at 3 (CRuby 3.3).
     pub fn age(&self, address: u64) -> u8
         requires { stands self.now address ≡ true }
-        ensures { result ≡ (object_of self.now address).age }
+        ensures age { result ≡ (object_of self.now address).age }
+        ensures most { result ≤ 3 }
     {
         self.traits(address).age
     }

@@ -63,7 +63,8 @@ fn colour_of(marked: bool, black: bool) -> Colour
 
 // The age by its two bits.
 fn age_of(low: bool, high: bool) -> u8
-    ensures { result ≡ age_from low high }
+    ensures age { result ≡ age_from low high }
+    ensures most { result ≤ 3 }
 {
     u8::from(low) + 2 * u8::from(high)
 }
@@ -251,7 +252,8 @@ impl Marks {
     pub fn traits(&self, s: u32) -> Traits
         requires wide { AreWide self.now (length self.now.object) }
         requires within { s < length self.now.object }
-        ensures { result ≡ traits_from self.now s }
+        ensures traits { result ≡ traits_from self.now s }
+        ensures most { result.age ≤ 3 }
     {
         Traits {
             guard: guard_of(self.guard.get(s)),

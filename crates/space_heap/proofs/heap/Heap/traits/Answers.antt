@@ -12,8 +12,11 @@ traits-requires-clause-within c = subst (λ m. c.in-Some.slot < length m.object)
 pub unreachable-requires : goal.unreachable-requires
 unreachable-requires c = never c.self.inside _ c.self.view_is _ c.requires c.in-None.ensures.place
 
-pub returns : goal.returns
-returns c =
-    c.traits.ensures
+pub returns-clause-traits : goal.returns-clause-traits
+returns-clause-traits c =
+    c.traits.ensures.traits
     ∙ ap (λ m. traits_from m c.in-Some.slot) c.marks_of.ensures
     ∙ traits_here c.self.inside _ c.self.view_is _ _ _ c.self.invariant c.in-Some.ensures.place c.requires
+
+pub returns-clause-most : goal.returns-clause-most
+returns-clause-most c = c.traits.ensures.most
