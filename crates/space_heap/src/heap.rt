@@ -60,20 +60,23 @@ impl Model for Heap {
 /// An object that was born.
 #[derive(Clone, Copy, Debug, PartialEq, Eq)]
 pub struct Made {
+    /// Its name: one more than the number of those born before.
     pub name: u64,
+    /// The address of its slot, in bytes.
     pub address: u64,
 }
 
 /// Why no object was born.
 #[derive(Clone, Copy, Debug, PartialEq, Eq)]
 pub enum PlaceFault {
-    /// No page of the pool has a free slot.
+    /// No page of the pool has a free slot, but for those that wait for a sweep.
     NoSlot,
 }
 
 impl Heap {
     /// A heap without a page, which may get `limit` pages, 1 to 4,096 (this project's own). It takes
-    /// the memory that verdicts and sweeps work in, so that they take none.
+    /// the memory that verdicts and sweeps work in, so that they take none. An `Err` says that there was
+    /// no memory for it.
     pub fn new(alloc: Global, limit: u32) -> Result<Heap, NoMemory>
         requires some { 1 ≤ limit }
         requires most { limit ≤ 4096 }
@@ -125,7 +128,8 @@ impl Heap {
         self.pools.page_count()
     }
 
-    /// The pool of a page, 0 to 4, or `None` for a spare page.
+    /// The pool of a page, or `None` for a spare page. It is 0 to 4: the clause `sound` of `page_count`
+    /// says so.
     #[tactic(auto, using(crate::proofs::Views::reading))]
     pub fn page_pool(&self, page: u32) -> Option<u8>
         requires { page < length self.now.pages }
@@ -257,8 +261,8 @@ impl Heap {
         self.traits(address).gone
     }
 
-    /// The lowest free address of the pool, or `None` where none of its pages has a free slot, but for
-    /// those that wait for a sweep.
+    /// The lowest free address of the pool, in bytes, or `None` where none of its pages has a free slot,
+    /// but for those that wait for a sweep.
     pub fn lowest_free(&self, pool: u8) -> Option<u64>
         requires { pool < POOLS }
         ensures { MatchOption result (HasNoFree self.now pool) (IsLeastFree self.now pool) }
@@ -267,7 +271,8 @@ impl Heap {
         self.pools.lowest_free(pool)
     }
 
-    /// The new address of the object that was moved from this one; any other word stays.
+    /// The new address of the object that was moved from this one (`T_MOVED` of CRuby 3.3); any other
+    /// word stays.
     pub fn resolve(&self, word: u64) -> u64
         ensures { result ≡ resolved self.now word }
     {
@@ -324,6 +329,7 @@ impl Heap {
 
     /// Gives birth to an object of so many fields, which are nil, at the lowest free address of the
     /// first pool whose slots have room for them (this project's own order). It takes no memory.
+    /// `NoSlot` comes exactly where no address is free for that pool, and then nothing changes.
     pub fn place(&mut self, fields: u64, guard: Guard, style: Style) -> Result<Made, PlaceFault>
         requires few { fields ≤ MOST_FIELDS }
         requires names { self.old.counters.born < 2 ^ 62 }
@@ -448,7 +454,9 @@ impl Heap {
     }
 
     /// Gives the pool a page whose slots are all free, the lowest spare page or else a new one, and
-    /// answers its number. A spare page takes no memory. A failed call changes nothing.
+    /// answers its number (the order is this project's own). A spare page takes no memory. `AtLimit`
+    /// comes exactly where no page is spare and there are as many as may be; `NoMemory` comes else, where
+    /// none is spare. A failed call changes nothing.
     pub fn add_page(&mut self, pool: u8) -> Result<u32, PageFault>
         requires { pool < POOLS }
         ensures next { IfOk result (IsNextPage self.old) }

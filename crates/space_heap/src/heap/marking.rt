@@ -29,7 +29,8 @@ impl Heap {
         self.grey.last().copied()
     }
 
-    /// A white object is grey now. It takes no memory.
+    /// A white object is grey now, and comes last of the grey ones (the colours are those of CRuby 3.3).
+    /// It takes no memory.
     pub fn grey(&mut self, address: u64)
         requires object { is_object self.old address ≡ true }
         requires white { colour_of self.old address ≡ Colour.White }
@@ -45,7 +46,7 @@ impl Heap {
         }
     }
 
-    /// The object that became grey last is black now.
+    /// The object that became grey last is black now (the colours are those of CRuby 3.3).
     pub fn blacken(&mut self, address: u64)
         requires { IsLastGrey self.old address }
         ensures { self.new ≡ blackened self.old address }

@@ -82,7 +82,8 @@ impl Heap {
 
     /// A verdict: each white object is gone, and each page with a pool waits for a sweep. The phase
     /// is that of sweeping, or nothing is under way where no page has a pool. The verdict is counted.
-    /// Ages stay 0, since no command makes an object older yet.
+    /// Ages, guards and all other marks stay as they are. That a verdict is on all pages, before the first
+    /// sweep, is this project's own.
     pub fn settle(&mut self, kind: Kind)
         requires none_grey { self.old.grey ≡ [] }
         requires none_gone { HasNoGone self.old }
@@ -97,8 +98,8 @@ impl Heap {
         self.other_verdicts = count_other(kind, self.other_verdicts);
     }
 
-    /// Sweeps a page: the slots of its gone objects are free, and it is spare where all its slots are
-    /// free then. The freed slots are counted.
+    /// Sweeps a page, as CRuby 3.3 sweeps page by page: the slots of its gone objects are free, and it is
+    /// spare where all its slots are free then. The freed slots are counted. The phase stays.
     pub fn sweep_page(&mut self, page: u32)
         requires unswept { is_unswept self.old page ≡ true }
         requires few { self.old.counters.freed < 2 ^ 62 }
@@ -127,11 +128,11 @@ impl Heap {
         }
     }
 
-    /// The least address not below `from` where a gone object stands, or `None` where none does. A walk
-    /// from one to the next over all of them looks at each slot once.
+    /// The least address not below `from` where a gone object stands, or `None` where none does.
     pub fn next_gone(&self, from: u64) -> Option<u64>
         ensures { MatchOption result (HasNoGoneFrom self.now from) (IsNextGone self.now from) }
     {
+        // It begins with the page of `from`, so that a walk over all gone objects looks at each slot once.
         let mut page = (from / 65536).saturating_sub(1);
         'pages: while page < u64::from(self.page_count()) {
             if let Some(address) = self.next_gone_on(page as u32, from) {
