@@ -1,12 +1,12 @@
 -- Gone objects wait for a sweep, for the callers: so where no page waits none is gone.
-use Rattle.std.proofs.Common.{◌≡◌, ⊎_elim, ℕ, false, true≢false, not, ◌&&◌, [], nat_eq, refl, sym, ap, ◌∙◌, subst, arith}
+use Rattle.std.proofs.Common.{◌≡◌, ⊎_elim, ℕ, true, false, true≢false, not, ◌&&◌, [], nat_eq, refl, sym, ap, ◌∙◌, subst, arith}
 use Rattle.std.specs.Set.{is_member}
 use Rattle.std.proofs.lemmas.Bool.{and_parts, cases_Bool, cases_eq}
 use Rattle.std.proofs.lemmas.Bool.Decides.{nat_tests}
 use Rattle.space_model.specs.declared.event.Kind.{Kind}
 use Rattle.space_model.specs.declared.phase.Phase.{Phase}
 use Rattle.space_model.specs.Layout.{page_of}
-use Rattle.space_heap.specs.HeapView.{HeapView}
+use Rattle.space_heap.specs.HeapView.{HeapView, is_unswept}
 use Rattle.space_heap.specs.Objects.{object_of}
 use Rattle.space_heap.specs.SoundHeap.{IsSoundHeap}
 use Rattle.space_heap.specs.Sweeping.{is_gone, settled, swept, HasNoGone}
@@ -14,8 +14,11 @@ use Rattle.space_heap.proofs.PhaseLaws.{stands-in_phase, object_of-in_phase}
 use Rattle.space_heap.proofs.SweptPages.{stands_pooled}
 use Rattle.space_heap.proofs.SettledLaws.{stands-settled, is_unswept-settled}
 use Rattle.space_heap.proofs.SweptLaws.{is_gone-swept_same, is_gone-swept_other, is_unswept-swept}
-use Rattle.space_sweep.specs.Gone.{GoneWait}
 use Rattle.space_sweep.specs.Sweeps.{SweepsFirst}
+
+-- each gone object is on a page that waits for a sweep
+abbrev pub GoneWait : HeapView → Type 0
+GoneWait v = (a : ℕ) → is_gone v a ≡ true → is_unswept v (page_of a) ≡ true
 
 pub gone_wait-settled : (v : HeapView) (kind : Kind) → IsSoundHeap v → GoneWait (settled v kind)
 gone_wait-settled v kind sound a g = is_unswept-settled v kind (page_of a) ∙ stands_pooled v a sound (sym (stands-settled v kind a) ∙ (and_parts _ _ g).0)

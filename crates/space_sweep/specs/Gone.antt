@@ -1,8 +1,7 @@
 -- The gone objects of a heap, and those that a verdict takes.
 use Rattle.std.specs.Prelude.{◌≡◌, ℕ, true}
 use Rattle.space_heap.specs.declared.colour.Colour.TheVariants.{White}
-use Rattle.space_model.specs.Layout.{page_of}
-use Rattle.space_heap.specs.HeapView.{HeapView, is_unswept}
+use Rattle.space_heap.specs.HeapView.{HeapView}
 use Rattle.space_heap.specs.Objects.{is_object, object_of}
 use Rattle.space_heap.specs.Marking.{colour_of}
 use Rattle.space_heap.specs.Sweeping.{is_gone}
@@ -12,10 +11,6 @@ use Rattle.space_sweep.specs.declared.gone.Dead.{Dead}
 -- a gone object stands at the address
 abbrev pub IsGone : HeapView → ℕ → Type 0
 IsGone v a = is_gone v a ≡ true
-
--- each gone object is on a page that waits for a sweep
-abbrev pub GoneWait : HeapView → Type 0
-GoneWait v = (a : ℕ) → is_gone v a ≡ true → is_unswept v (page_of a) ≡ true
 
 -- the address names an object that isn't marked
 abbrev pub IsUnmarked : HeapView → ℕ → Type 0
