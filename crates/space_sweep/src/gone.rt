@@ -12,7 +12,9 @@ use space_model::Kind;
 /// A gone object that waits for the sweep of its page.
 #[derive(Clone, Copy, Debug, PartialEq, Eq)]
 pub struct Dead {
+    /// Its name.
     pub name: u64,
+    /// The address of its slot, in bytes.
     pub address: u64,
 }
 
@@ -32,7 +34,8 @@ fn count_gone(heap: &Heap) -> u64
 }
 
 /// A verdict ends a marking: each object that isn't marked is gone, and each page that has a pool
-/// waits for a sweep. The answer is how many objects are gone. It takes no memory.
+/// waits for a sweep. The answer is how many objects are gone. It takes no memory. That they are counted
+/// before the first sweep is this project's own.
 pub fn verdict(heap: &mut Heap, kind: Kind) -> u64
     requires none_grey { heap.old.grey ≡ [] }
     requires none_gone { HasNoGone heap.old }

@@ -6,11 +6,11 @@ ghost use Rattle.space_sweep.specs.Sweeps.{phase_left, IsFirstUnswept, IsNextUns
 use space_heap::Heap;
 use space_model::Phase;
 
-/// The lowest page from `from` on that waits for a sweep, or `None` where none does. It looks at no page
-/// below `from` or above its answer, so a walk over all that wait looks at each page once.
+/// The lowest page from `from` on that waits for a sweep, or `None` where none does.
 pub fn next_unswept(heap: &Heap, from: u32) -> Option<u32>
     ensures next { MatchOption result ((page : ℕ) → from ≤ page → is_unswept heap.now page ≡ false) (IsNextUnswept heap.now from) }
 {
+    // No page below `from` or above the answer is looked at, so a walk over all that wait looks at each page once.
     let count = heap.page_count();
     let mut page = from;
     'pages: while page < count {
@@ -22,17 +22,13 @@ pub fn next_unswept(heap: &Heap, from: u32) -> Option<u32>
     None
 }
 
-/// The lowest page that waits for a sweep, or `None` where none does. It is sought from the first page
-/// on: who has swept up to some page asks `next_unswept`.
+/// The lowest page that waits for a sweep, or `None` where none does.
 pub fn first_unswept(heap: &Heap) -> Option<u32>
     ensures { MatchOption result (heap.now.unswept ≡ []) (IsFirstUnswept heap.now) }
 {
     // For its clause `sound`: the pages that wait are listed in ascending order.
     heap.page_count();
-    match next_unswept(heap, 0) {
-        Some(page) => Some(page),
-        None => None,
-    }
+    next_unswept(heap, 0)
 }
 
 // 1 where it is so.
@@ -67,14 +63,15 @@ fn next_phase(heap: &Heap, from: u32) -> Phase
     }
 }
 
-/// Does what `sweep` does for who knows the lowest page that waits, as from `next_unswept`. It looks at no
-/// page below it, and at those above only up to the next one that waits.
+/// Sweeps this page, the lowest that waits, and it alone. The answer is how many slots became free. After
+/// the last page nothing is under way. It takes no memory.
 pub fn sweep_first(heap: &mut Heap, page: u32) -> u64
     requires first { IsFirstUnswept heap.old page }
     requires few { heap.old.counters.freed < 2 ^ 62 }
     ensures { SweepsFirst heap.old heap.new result }
 {
-    // For its clause `sound`.
+    // Only pages from this one on are looked at, up to the next one that waits.
+    // For the clause `sound`.
     heap.page_count();
     let before = heap.freed();
     heap.sweep_page(page);
@@ -86,13 +83,14 @@ pub fn sweep_first(heap: &mut Heap, page: u32) -> u64
 
 /// Sweeps the lowest page that waits for it, and it alone: the slots of its gone objects are free, and
 /// it is spare where no slot of it is taken then. After the last page nothing is under way. The answer
-/// is how many slots became free. It takes no memory. The page is sought from the first one on: who
-/// knows it calls `sweep_first`.
+/// is how many slots became free. It takes no memory. Sweeping page by page is CRuby 3.3's; that the
+/// lowest page comes first is this project's own.
 pub fn sweep(heap: &mut Heap) -> u64
     requires some { heap.old.unswept ≢ [] }
     requires few { heap.old.counters.freed < 2 ^ 62 }
     ensures { SweepsFirst heap.old heap.new result }
 {
+    // The page is sought from the first one on: who knows it calls `sweep_first`.
     match first_unswept(heap) {
         Some(page) => sweep_first(heap, page),
         None => unreachable!(),

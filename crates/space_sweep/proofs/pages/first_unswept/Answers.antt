@@ -1,8 +1,5 @@
-use Rattle.space_sweep.proofs.FirstPages.{first_is, none_waits}
+use Rattle.space_sweep.proofs.FirstPages.{first_or_none}
 use Rattle.space_sweep.proofs.pages.first_unswept.Goals as goal
 
-pub returns-in-Some : goal.returns-in-Some
-returns-in-Some c = first_is c.args.heap.now c.in-Some.page c.page_count.ensures.sound c.in-Some.ensures.next
-
-pub returns-in-None : goal.returns-in-None
-returns-in-None c = none_waits c.args.heap.now c.page_count.ensures.sound c.in-None.ensures.next
+pub returns : goal.returns
+returns c = first_or_none c.args.heap.now c.next_unswept.result c.page_count.ensures.sound c.next_unswept.ensures.next
