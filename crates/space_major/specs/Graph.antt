@@ -1,4 +1,5 @@
--- The graph of the objects: which object is a child of which, what is reached, and what a marking leaves as it is.
+-- The graph of the objects: which object is a child of which, what is reached, and what a marking leaves as it is. Words aren't resolved,
+-- so the address that an object left names none.
 use Rattle.std.specs.Prelude.{◌≡◌, ◌⊎◌, ℕ, Bool, true, ◌&&◌, List, length, nat_eq}
 use Rattle.std.specs.Set.{is_member}
 use Rattle.space_model.specs.Reach.{IsReached}
@@ -12,6 +13,7 @@ use Rattle.space_major.specs.Scans.{fields_of}
 abbrev pub is_child : HeapView → ℕ → ℕ → Bool
 is_child v m n = is_object v n && is_member nat_eq (fields_of v m) n
 
+-- n is an object that a field of the object at m names
 abbrev pub IsChild : HeapView → ℕ → ℕ → Type 0
 IsChild v m n = is_child v m n ≡ true
 
