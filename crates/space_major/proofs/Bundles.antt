@@ -57,7 +57,7 @@ goes_on_scan now v k a g h = λ old words again done p.
 
 -- what was scanned stands
 done_stands : (old v : HeapView) (words again done : List ℕ) → Marks old v words again done → (n : ℕ) → is_member nat_eq done n ≡ true → stands v n ≡ true
-done_stands old v words again done p n m = stands_from_colour v n (let b = (p.marking.done_black n m).0 in λ w. cc)
+done_stands old v words again done p n m = stands_from_colour v n (let b = p.marking.done_black n m in λ w. cc)
 
 -- there are no more scans than objects
 pub goes_on_most : (now v : HeapView) (k most : ℕ) → GoesOn now v k → HasAtMost v most → k ≤ most

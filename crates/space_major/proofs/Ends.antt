@@ -30,7 +30,7 @@ count_done old new words again done p none = record {
   names = done;
   once = p.once;
   are = λ n. (
-    (λ d. let b = p.done_black n d in ((λ w. let q = b.0 in cc), b.1)),
+    (λ d. let b = p.done_black n d in ((λ w. cc), p.done_new n d)),
     (λ h. ⊎_elim (λ w. absurd (h.0 w)) (λ q. ⊎_elim (λ g. absurd (none n g)) (λ b. p.black_done n b h.1) q) (colours (colour_of new n))),
   );
   long = refl;

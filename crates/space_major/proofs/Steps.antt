@@ -28,6 +28,7 @@ marking_none v = record {
   black_kept = λ a b. b;
   once = IsDistinct-none;
   done_black = λ a m. cc;
+  done_new = λ a m. cc;
   black_done = λ a b n. absurd (n b);
   again_once = IsDistinct-none;
   again_black = λ a m. cc;
@@ -46,6 +47,7 @@ marking_words old v u words more again done same p r =
       black_kept = λ a b. grind (arith, p.black_kept a, r.cases a);
       once = p.once;
       done_black = λ a m. grind (arith, p.done_black a, r.cases a);
+      done_new = p.done_new;
       black_done = λ a b n. grind (arith, p.black_done a, r.cases a);
       again_once = p.again_once;
       again_black = p.again_black;
@@ -73,13 +75,14 @@ sound_scanned old v u words again done a same p k s n m =
 -- the object that became grey last was scanned
 pub marking_scan : (old v u : HeapView) (words again done : List ℕ) (a : ℕ) → SameGraph old v → Marking old v words again done → colour_of v a ≡ Grey → Scanned v a u → Marking old u words again (done ++ a ∷ [])
 marking_scan old v u words again done a same p g s =
-    let fresh : is_member nat_eq done a ≡ false = false_from_ne_true _ (λ m. let b = (p.done_black a m).0 in cc) in
+    let fresh : is_member nat_eq done a ≡ false = false_from_ne_true _ (λ m. let b = p.done_black a m in cc) in
     let split = λ (n : ℕ). is_member-push done a n in
     record {
       kept = λ n m w. grind (arith, p.kept n m, s.cases n, s.black, cases_eq n a);
       black_kept = λ n b. grind (arith, p.black_kept n, s.cases n, s.black, cases_eq n a);
       once = IsDistinct-push nat_eq_equiv done a p.once fresh;
-      done_black = λ n m. grind (arith, nat_tests, split n, p.done_black n, p.black_kept n, s.cases n, s.black, cases_eq n a);
+      done_black = λ n m. grind (arith, nat_tests, split n, p.done_black n, s.cases n, s.black, cases_eq n a);
+      done_new = λ n m b. grind (arith, nat_tests, split n, p.done_new n, p.black_kept n, g, cases_eq n a);
       black_done = λ n b d. grind (arith, nat_tests, split n, p.black_done n, s.cases n, cases_eq n a);
       again_once = p.again_once;
       again_black = p.again_black;
@@ -98,6 +101,7 @@ marking_again old v u words again done a same p g fresh s =
       black_kept = λ n b. grind (arith, p.black_kept n, s.cases n, s.black, cases_eq n a);
       once = p.once;
       done_black = λ n m. grind (arith, nat_tests, p.done_black n, s.cases n, s.black, cases_eq n a);
+      done_new = p.done_new;
       black_done = λ n b d. grind (arith, nat_tests, p.black_done n, s.cases n, cases_eq n a);
       again_once = IsDistinct-push nat_eq_equiv again a p.again_once fresh;
       again_black = λ n m. grind (arith, nat_tests, split n, p.again_black n);

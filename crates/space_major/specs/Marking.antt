@@ -13,7 +13,7 @@ use Rattle.space_major.specs.Graph.{IsChild, IsNamed, SameGraph}
 abbrev pub IsMarked : HeapView → ℕ → Type 0
 IsMarked v n = colour_of v n ≢ White
 
--- whether its fields were read: it was black and scanned again, or was scanned for the first time
+-- whether its fields were read: it was black and scanned again, which a whole marking does to none, or was scanned for the first time
 abbrev pub is_read : List ℕ → List ℕ → ℕ → Bool
 is_read again done n = is_member nat_eq again n || is_member nat_eq done n
 
@@ -22,7 +22,8 @@ pub record Marking (old new : HeapView) (words again done : List ℕ) : Type 0 w
   pub kept : (a : ℕ) → IsMarked old a → IsMarked new a
   pub black_kept : (a : ℕ) → colour_of old a ≡ Black → colour_of new a ≡ Black
   pub once : IsDistinct nat_eq done
-  pub done_black : (a : ℕ) → is_member nat_eq done a ≡ true → (colour_of new a ≡ Black) × (colour_of old a ≢ Black)
+  pub done_black : (a : ℕ) → is_member nat_eq done a ≡ true → colour_of new a ≡ Black
+  pub done_new : (a : ℕ) → is_member nat_eq done a ≡ true → colour_of old a ≢ Black
   pub black_done : (a : ℕ) → colour_of new a ≡ Black → colour_of old a ≢ Black → is_member nat_eq done a ≡ true
   pub again_once : IsDistinct nat_eq again
   pub again_black : (a : ℕ) → is_member nat_eq again a ≡ true → colour_of old a ≡ Black
@@ -35,7 +36,7 @@ pub record SameNotes (old new : HeapView) : Type 0 where
   pub remembered : (a : ℕ) → (object_of new a).remembered ≡ (object_of old a).remembered
   pub kept : (a : ℕ) → (object_of new a).kept ≡ (object_of old a).kept
 
--- the whole of it
+-- marking did this, and nothing but colours and the list of grey addresses changed
 pub record Marks (old new : HeapView) (words again done : List ℕ) : Type 0 where
   pub same : SameGraph old new
   pub notes : SameNotes old new
