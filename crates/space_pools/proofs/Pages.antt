@@ -48,6 +48,14 @@ most_slots (suc (suc (suc zero))) known = omega arith
 most_slots (suc (suc (suc (suc zero)))) known = omega arith
 most_slots (suc (suc (suc (suc (suc pool))))) known = absurd (omega arith)
 
+few_of : (pool : Option ℕ) → ((k : ℕ) → pool ≡ Some k → k < 5) → count_of pool ≤ 1638
+few_of None known = omega arith
+few_of (Some pool) known = most_slots pool (known pool refl)
+
+-- a page has at most 1,638 slots
+pub few_slots : (p : Inside) → IsPoolPage p → length p.free ≤ 1638
+few_slots p h = let few = few_of p.pool h.known in let l = h.long in omega arith
+
 -- a slot whose bit is 0 has its words
 pub found_is : (p : Inside) (slot : ℕ) → slot < length p.free → bit p.free slot ≡ false → found_in (page_from p) slot ≡ Some (slot_on p.pool p.words slot)
 found_is p slot within clear = slot_is p slot None within ∙ cond-false (bit p.free slot) None _ clear

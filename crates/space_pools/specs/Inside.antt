@@ -10,9 +10,11 @@ use Rattle.space_pools.specs.PageSlots.{PageSlots, count_of}
 abbrev pub found_from : Inside → ℕ → Option (List ℕ)
 found_from p slot = if bit p.free slot then None else Some (slot_on p.pool p.words slot)
 
+-- the page, by its fields
 abbrev pub page_from : Inside → PageSlots
 page_from p = record { pool = p.pool; slots = map (found_from p) (range_with_len 0 (length p.free)); unswept = p.unswept }
 
+-- what holds of the fields of every page
 pub record IsPoolPage (p : Inside) : Type 0 where
   pub whole : length p.words ≡ 8192
   pub known : (pool : ℕ) → p.pool ≡ Some pool → pool < 5

@@ -6,6 +6,7 @@ use Rattle.space_pools.specs.PoolsView.{PoolsView, page_at, pool_at}
 use Rattle.space_pools.specs.Spare.{spare_count}
 use Rattle.space_pools.specs.Sound.{IsSoundPools}
 
+-- the view of the pools, by their fields
 abbrev pub view_from : Inside → PoolsView
 view_from p = record { limit = p.limit; pages = p.pages.items }
 
@@ -13,6 +14,7 @@ view_from p = record { limit = p.limit; pages = p.pages.items }
 abbrev pub AreFullBelow : PoolsView → List ℕ → Type 0
 AreFullBelow v cursors = (pool page : ℕ) → page < slice_index_or cursors pool 0 → pool_at v page ≡ Some pool → IsPassedOver (page_at v page)
 
+-- what holds of the fields of all pools
 pub record ArePools (p : Inside) : Type 0 where
   pub sound : IsSoundPools (view_from p)
   pub room : p.limit ≤ vec_capacity p.pages

@@ -20,12 +20,12 @@ spare_page = record { pool = None; slots = []; unswept = false }
 abbrev pub free_page : ℕ → PageSlots
 free_page pool = record { pool = Some pool; slots = replicate (page_slots pool) None; unswept = false }
 
--- how many words a slot of such a page has
+-- how many words a slot has on a page of this pool; none on a spare page
 abbrev pub width_of : Option ℕ → ℕ
 width_of None = 0
 width_of (Some pool) = words_of pool
 
--- how many slots such a page has
+-- how many slots a page of this pool has; none where it is spare
 abbrev pub count_of : Option ℕ → ℕ
 count_of None = 0
 count_of (Some pool) = page_slots pool
@@ -38,7 +38,7 @@ free_in p slot = is_none (slice_index_or p.slots slot (Some []))
 abbrev pub taken_in : PageSlots → ℕ → Bool
 taken_in p slot = is_some (slice_index_or p.slots slot None)
 
--- the words of a slot that isn't free
+-- the words of a slot that isn't free; none where it is free, and where there is no such slot
 abbrev pub found_in : PageSlots → ℕ → Option (List ℕ)
 found_in p slot = slice_index_or p.slots slot None
 

@@ -2,6 +2,7 @@
 use Rattle.std.specs.Prelude.{ℕ, Bool, List, Option, slice_index_or, slice_set}
 use Rattle.space_pools.specs.PageSlots.{PageSlots, spare_page, free_in, taken_in, found_in, with_found_in, written_in, held_in, freed_in}
 
+-- the pools as callers see them: the most pages that there may be, and the pages
 pub record PoolsView : Type 0 where
   pub limit : ℕ
   pub pages : List PageSlots
@@ -26,7 +27,7 @@ free_at v page slot = free_in (page_at v page) slot
 abbrev pub taken_at : PoolsView → ℕ → ℕ → Bool
 taken_at v page slot = taken_in (page_at v page) slot
 
--- the words of a slot that isn't free
+-- the words of a slot that isn't free; none where it is free, and where there is no such slot
 abbrev pub found_at : PoolsView → ℕ → ℕ → Option (List ℕ)
 found_at v page slot = found_in (page_at v page) slot
 

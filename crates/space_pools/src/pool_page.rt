@@ -57,29 +57,16 @@ fn known(pool: Option<u8>) -> u8
     }
 }
 
-// The first place past `s` whose bit is 1, or the number of bits where there is none.
-fn next_free(free: &Plane, s: u32) -> u32
-    requires { s < length free.now }
-    ensures past { s < result }
+// The first place from `from` on whose bit is 1, or the number of bits where there is none.
+fn free_from(free: &Plane, from: u32) -> u32
+    requires { from ≤ length free.now }
+    ensures start { from ≤ result }
     ensures within { result ≤ length free.now }
-    ensures clear { (k : ℕ) → s < k → k < result → bit free.now k ≡ false }
+    ensures clear { (k : ℕ) → from ≤ k → k < result → bit free.now k ≡ false }
     ensures set { result < length free.now → bit free.now result ≡ true }
 {
     let len = free.len();
-    match free.first_set_from(s + 1) {
-        Some(next) => next,
-        None => len,
-    }
-}
-
-// The first place whose bit is 1, or the number of bits where there is none.
-fn first_free(free: &Plane) -> u32
-    ensures within { result ≤ length free.now }
-    ensures clear { (k : ℕ) → k < result → bit free.now k ≡ false }
-    ensures set { result < length free.now → bit free.now result ≡ true }
-{
-    let len = free.len();
-    match free.first_set_from(0) {
+    match free.first_set_from(from) {
         Some(first) => first,
         None => len,
     }
@@ -125,9 +112,9 @@ fn put_links(words: &mut SlotPage, pool: u8, free: &Plane)
     ensures others { (slot : ℕ) → slot < length free.now → bit free.now slot ≡ false → slot_words words.new pool slot ≡ slot_words words.old pool slot }
 {
     let slots = free.len();
-    let mut s = first_free(free);
+    let mut s = free_from(free, 0);
     'slots: while s < slots {
-        let next = next_free(free, s);
+        let next = free_from(free, s + 1);
         put_link(words, pool, s, link_to(next, slots));
         s = next;
     }
@@ -181,7 +168,7 @@ impl PoolPage {
     {
         put_links(&mut self.words, known(self.pool), free);
         self.free.copy_from(free);
-        self.lowest = first_free(free);
+        self.lowest = free_from(free, 0);
         self.unswept = false;
     }
 
@@ -241,7 +228,7 @@ impl PoolPage {
         requires { IsFirstFree self.old s }
         ensures { TakesSlot self.old self.new s }
     {
-        self.lowest = next_free(&self.free, s);
+        self.lowest = free_from(&self.free, s + 1);
         self.free.clear(s);
     }
 

@@ -73,7 +73,7 @@ impl Pools {
         self.limit
     }
 
-    /// How many pages there are.
+    /// How many pages there are. The clause `sound` holds of all pools: who needs it calls this.
     pub fn page_count(&self) -> u32
         ensures count { result ≡ length self.now.pages }
         ensures sound { IsSoundPools self.now }

@@ -1,4 +1,4 @@
-use Rattle.std.proofs.Common.{◌≡◌, ℕ, ◌<◌, ◌≤◌, false, length, sym, ap, ◌∙◌, subst}
+use Rattle.std.proofs.Common.{◌≡◌, ℕ, ◌<◌, ◌≤◌, false, length, sym, ap, ◌∙◌, subst, arith}
 use Rattle.space_pools.specs.PageSlots.{PageSlots, HasEachFree, count_of, freed_in}
 use Rattle.space_planes.specs.Planes.{bit}
 use Rattle.space_pools.specs.Links.{slot_on, AreLinked}
@@ -19,14 +19,14 @@ invariant_of-self c =
     let words = c.put_links.new.words in
     let long : length free ≡ length c.self.inside.free = c.requires.len ∙ sym (ap (λ (p : PageSlots). length p.slots) c.self.view_is) ∙ length-slots c.self.inside in
     let is = c.copy_from.ensures in
-    let first = c.first_free-self-inside.ensures in
+    let first = c.free_from-self-inside.ensures in
     record {
       whole = c.put_links.ensures.whole;
       known = c.self.invariant.known;
       long = ap length is ∙ long ∙ c.self.invariant.long;
-      within = subst (λ plane. c.first_free-self-inside.result ≤ length plane) (sym is) first.within;
-      clear_below = λ k h. ap (λ plane. bit plane k) is ∙ first.clear k h;
-      set_at = λ h. ap (λ plane. bit plane c.first_free-self-inside.result) is ∙ first.set (subst (λ plane. c.first_free-self-inside.result < length plane) is h);
+      within = subst (λ plane. c.free_from-self-inside.result ≤ length plane) (sym is) first.within;
+      clear_below = λ k h. ap (λ plane. bit plane k) is ∙ first.clear k (omega arith) h;
+      set_at = λ h. ap (λ plane. bit plane c.free_from-self-inside.result) is ∙ first.set (subst (λ plane. c.free_from-self-inside.result < length plane) is h);
       linked = subst (AreLinked c.self.inside.pool words) (sym is) (subst (λ pool. AreLinked pool words free) (sym c.known.ensures) c.put_links.ensures.linked);
     }
 
@@ -39,6 +39,6 @@ returns c =
     let each : HasEachFree (page_from p) free = subst (λ p. HasEachFree p free) (sym c.self.view_is) c.requires.each in
     let same : (k : ℕ) → k < length free → bit free k ≡ false → slot_on p.pool words k ≡ slot_on p.pool p.words k = λ k h clear.
     ap (λ pool. slot_on pool words k) c.known.ensures ∙ c.put_links.ensures.others k h clear ∙ sym (ap (λ pool. slot_on pool p.words k) c.known.ensures) in
-    ap (λ plane. page_from (record p { words = words; free = plane; lowest = c.first_free-self-inside.result; unswept = false })) c.copy_from.ensures
-    ∙ freed p words free c.first_free-self-inside.result long each same
+    ap (λ plane. page_from (record p { words = words; free = plane; lowest = c.free_from-self-inside.result; unswept = false })) c.copy_from.ensures
+    ∙ freed p words free c.free_from-self-inside.result long each same
     ∙ ap (λ p. freed_in p free) c.self.view_is
