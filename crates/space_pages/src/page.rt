@@ -2,10 +2,10 @@
 ghost use Rattle.std.specs.Prelude.{◌≡◌, ◌+◌, ◌*◌, ◌<◌, ◌≤◌, length, slice_index, slice_set, IfOk};
 ghost use Rattle.std.specs.Borrow.{sem};
 ghost use Rattle.space_model.specs.Layout.{page_slots as slots_of_page};
-ghost use Rattle.space_pages.specs.Slots.{blank_page, words_of, slot_words, with_slot};
+ghost use Rattle.space_pages.specs.Slots.{blank_page, words_of, slots_end, slot_words, with_slot, with_clear_end};
 ghost use Rattle.space_pages.specs.Lending.{LendsSlot};
 
-use space_model::{POOLS, slot_bytes};
+use space_model::{POOLS, page_slots, slot_bytes};
 use std::alloc::{AllocError as NoMemory, Global};
 use std::marker::Model;
 
@@ -44,6 +44,15 @@ fn slot_start(pool: u8, s: u32) -> usize
     ensures within { result + words_of pool ≤ PAGE_WORDS }
 {
     slot_len(pool) * s as usize
+}
+
+// The place of the first word past the last slot.
+fn end_of_slots(pool: u8) -> usize
+    requires { pool < POOLS }
+    ensures end { result ≡ slots_end pool }
+    ensures within { result ≤ PAGE_WORDS }
+{
+    slot_len(pool) * page_slots(pool) as usize
 }
 
 impl SlotPage {
@@ -96,6 +105,15 @@ impl SlotPage {
     {
         let start = slot_start(pool, s);
         self.words.slice_mut(start..start + slot_len(pool))
+    }
+
+    /// Makes the words past the last slot 0, on a page of this pool. All other words stay.
+    pub fn clear_end(&mut self, pool: u8)
+        requires { pool < POOLS }
+        ensures { self.new ≡ with_clear_end self.old pool }
+    {
+        let end = end_of_slots(pool);
+        self.words.slice_mut(end..PAGE_WORDS).fill(0);
     }
 
     /// Copies a slot of another page. Both pages are of this pool.
@@ -151,6 +169,10 @@ mod tests {
         other.copy_slot(2, &page, 1637, 0);
         assert!(rt; other.slot(0, 2) == page.slot(0, 1));
         assert!(rt; other.word(9) == 0 && other.word(15) == 0);
+        page.set_word(8190, 3);
+        page.set_word(8191, 3);
+        page.clear_end(0);
+        assert!(rt; page.word(8189) == 7 && page.word(8190) == 0 && page.word(8191) == 0);
         Ok(())
     }
 }

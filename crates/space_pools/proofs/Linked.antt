@@ -1,13 +1,13 @@
--- Free slots are linked after the walk over them, after a birth and after a loan.
-use Rattle.std.proofs.Common.{◌≡◌, ◌≢◌, inl, inr, ⊎_elim, ℕ, zero, suc, ◌+◌, ◌<◌, ◌≤◌, Bool, true, false, true≢false, List, [], ◌∷◌, length, drop, set, refl, sym, ap, ◌∙◌, subst, arith, Option}
+-- Free slots are linked after the walk over them, after a birth and after a loan, and the words past the last slot stay 0.
+use Rattle.std.proofs.Common.{◌≡◌, ◌≢◌, inl, inr, ⊎_elim, ℕ, zero, suc, ◌+◌, ◌<◌, ◌≤◌, Bool, true, false, true≢false, List, [], ◌∷◌, length, drop, get_or, set, refl, sym, ap, ◌∙◌, subst, arith, Option, Some}
 use Rattle.std.proofs.lemmas.Bool.{cases_eq, cases_lt}
 use Rattle.std.proofs.lemmas.List.{get_or_past, length-set}
 use Rattle.space_model.specs.Layout.{page_slots, slot_bytes}
 use Rattle.space_planes.specs.Planes.{bit}
 use Rattle.space_planes.proofs.Bits.{within_from_bit, bit-set_same, bit-set_other}
-use Rattle.space_pages.specs.Slots.{words_of, slot_words}
-use Rattle.space_pages.proofs.SlotLaws.{length-slot_words, slot_words-with_slot_same, slot_words-with_slot_other}
-use Rattle.space_pools.specs.Links.{IsLink, IsLinked, AreLinked, with_link}
+use Rattle.space_pages.specs.Slots.{words_of, slots_end, slot_words}
+use Rattle.space_pages.proofs.SlotLaws.{length-slot_words, slot_words-with_slot_same, slot_words-with_slot_other, get_or-with_slot_past}
+use Rattle.space_pools.specs.Links.{IsLink, IsLinked, AreLinked, IsClearPast, with_link}
 
 -- each slot has room for its link
 pub two_words : (pool : ℕ) → pool < 5 → 2 ≤ words_of pool
@@ -69,6 +69,9 @@ module _ (pool : ℕ) (free : List Bool) (words : List ℕ) (s link : ℕ) (know
   pub others_kept : (k : ℕ) → k < length free → bit free k ≡ false → slot_words (with_link words pool s link) pool k ≡ slot_words words pool k
   others_kept k h clear = other k h (λ same. true≢false (sym at ∙ ap (bit free) (sym same) ∙ clear))
 
+  pub past_kept : (k : ℕ) → slots_end pool ≤ k → get_or (with_link words pool s link) k 0 ≡ get_or words k 0
+  past_kept k h = get_or-with_slot_past words pool s written k 0 inside long h
+
 -- what the walk writes is the link
 pub link_is : (free : List Bool) (s next link : ℕ) → s < next → ((k : ℕ) → s < k → k < next → bit free k ≡ false) → (next < length free → bit free next ≡ true)
     → (next < length free → link ≡ 1 + next) → (length free ≤ next → link ≡ 0) → IsLink free s link
@@ -121,3 +124,11 @@ module _ (free : List Bool) (s : ℕ) (at : bit free s ≡ true) (first : (k : �
 -- nothing is free on a page without slots
 pub none_linked : (pool : Option ℕ) (words : List ℕ) (free : List Bool) → length free ≡ 0 → AreLinked pool words free
 none_linked pool words free none k b = let h = within_from_bit free k b in absurd (omega arith)
+
+-- the words past the last slot of a page of this pool are 0 where each of them is
+pub clear_on : (pool : Option ℕ) (its : ℕ) (words : List ℕ) → pool ≡ Some its → ((k : ℕ) → slots_end its ≤ k → get_or words k 0 ≡ 0) → IsClearPast pool words
+clear_on pool its words is clear other k e past = let same : other ≡ its = cc in clear k (subst (λ n. slots_end n ≤ k) same past)
+
+-- they are 0 where they stayed
+pub clear_after : (pool : Option ℕ) (its : ℕ) (words after : List ℕ) → pool ≡ Some its → ((k : ℕ) → slots_end its ≤ k → get_or after k 0 ≡ get_or words k 0) → IsClearPast pool words → IsClearPast pool after
+clear_after pool its words after is same clear = clear_on pool its after is (λ k past. same k past ∙ clear its k is past)

@@ -8,15 +8,16 @@ use Rattle.std.proofs.lemmas.List.{get_or-set_same, get_or-set_other, length-set
 use Rattle.std.proofs.lemmas.List.FromFn.{length-map-range_with_len, get_or-map-range_with_len, fill_by_all}
 use Rattle.space_model.specs.Layout.{page_slots, slot_bytes}
 use Rattle.space_planes.specs.Planes.{bit}
-use Rattle.space_pages.specs.Slots.{words_of, slot_words}
-use Rattle.space_pages.proofs.SlotLaws.{length-slot_words, slot_words-with_slot_same, slot_words-with_slot_other}
+use Rattle.space_pages.specs.Slots.{words_of, slots_end, slot_words}
+use Rattle.space_pages.proofs.SlotLaws.{length-slot_words, slot_words-with_slot_same, slot_words-with_slot_other, get_or-with_slot_past}
 use Rattle.std.proofs.lemmas.Simd.{length-put_chunk}
 use Rattle.space_pools.proofs.Written.{over}
+use Rattle.space_pools.proofs.Linked.{clear_on, clear_after}
 use Rattle.space_pools.specs.PageLending.{written_within}
 use Rattle.space_pools.specs.declared.pool_page.PoolPage.TheInside.{Inside}
 use Rattle.space_pools.specs.PageSlots.{PageSlots, HoldsSlots, HasEachFree, freed_found, freed_in, width_of, written_in, free_page, count_of, free_in, taken_in, found_in, with_found_in}
 use Rattle.space_planes.proofs.Bits.{within_from_bit}
-use Rattle.space_pools.specs.Links.{slot_on, IsLinked, AreLinked}
+use Rattle.space_pools.specs.Links.{slot_on, IsLinked, AreLinked, IsClearPast}
 use Rattle.space_pools.specs.Inside.{IsPoolPage, found_from, page_from}
 
 pub length-slots : (p : Inside) → length (page_from p).slots ≡ length p.free
@@ -102,6 +103,20 @@ all_free q pool its swept free =
     get_or-replicate (page_slots pool) k None None (omega arith) ∙ sym (cond-true (bit q.free k) None (Some (slot_on q.pool q.words k)) one) in
     let e : xs ≡ map (found_from q) (range_with_len 0 (length q.free)) = fill_by_all (found_from q) xs (length q.free) None all each in
     λ i. record { pool = its i; slots = sym e i; unswept = swept i }
+
+-- what holds of the fields of a page of the pool whose slots are all free
+pub fresh : (q : Inside) (pool : ℕ) → q.pool ≡ Some pool → pool < 5 → q.free ≡ replicate (page_slots pool) true → q.lowest ≡ 0 → length q.words ≡ 8192 → AreLinked (Some pool) q.words q.free → ((k : ℕ) → slots_end pool ≤ k → get_or q.words k 0 ≡ 0) → IsPoolPage q
+fresh q pool its known free first whole linked clear =
+    let long : length q.free ≡ page_slots pool = ap length free ∙ length-replicate (page_slots pool) true in record {
+      whole = whole;
+      known = λ other e. let same : other ≡ pool = cc in omega arith;
+      long = long ∙ ap count_of (sym its);
+      within = omega arith;
+      clear_below = λ k h. absurd (omega arith);
+      set_at = λ h. ap (λ plane. bit plane q.lowest) free ∙ get_or-replicate (page_slots pool) q.lowest true false (omega arith);
+      linked = subst (λ o. AreLinked o q.words q.free) (sym its) linked;
+      clear_past = clear_on q.pool pool q.words its clear;
+    }
 
 -- the slots of a plane become free, and the words of the others stay
 pub freed : (p : Inside) (words : List ℕ) (free : List Bool) (low : ℕ) → length free ≡ length p.free → HasEachFree (page_from p) free → ((k : ℕ) → k < length free → bit free k ≡ false → slot_on p.pool words k ≡ slot_on p.pool p.words k)
@@ -211,3 +226,6 @@ module _ (p : Inside) (pool slot : ℕ) (ws : List ℕ) (h : IsPoolPage p) (its 
       ∙ other k (within_from_bit p.free k b) (λ same. true≢false (sym b ∙ ap (bit p.free) same ∙ t.1))
       ∙ sym (ap (λ o. slot_on o p.words k) its) in
       subst (IsLinked p.free k) (sym e) (h.linked k b)
+
+  pub clear_after_loan : IsClearPast p.pool (written_within p.words pool slot ws)
+  clear_after_loan = clear_after p.pool pool p.words (written_within p.words pool slot ws) its (λ k past. get_or-with_slot_past p.words pool slot (put_chunk 0 old ws) k 0 within wide past) h.clear_past

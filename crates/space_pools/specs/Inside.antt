@@ -3,7 +3,7 @@ use Rattle.std.specs.Prelude.{◌≡◌, ℕ, ◌<◌, ◌≤◌, true, false, L
 use Rattle.std.specs.List.{range_with_len}
 use Rattle.space_planes.specs.Planes.{bit}
 use Rattle.space_pools.specs.declared.pool_page.PoolPage.TheInside.{Inside}
-use Rattle.space_pools.specs.Links.{slot_on, AreLinked}
+use Rattle.space_pools.specs.Links.{slot_on, AreLinked, IsClearPast}
 use Rattle.space_pools.specs.PageSlots.{PageSlots, count_of}
 
 -- what is found in a slot
@@ -25,3 +25,4 @@ pub record IsPoolPage (p : Inside) : Type 0 where
   pub set_at : p.lowest < length p.free → bit p.free p.lowest ≡ true
   -- word 0 of each free slot is 0, and word 1 links it to the next one
   pub linked : AreLinked p.pool p.words p.free
+  pub clear_past : IsClearPast p.pool p.words

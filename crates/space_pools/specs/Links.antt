@@ -1,7 +1,7 @@
--- The words of free slots: the free slots of a page are a list in the order of their numbers (this project's own).
-use Rattle.std.specs.Prelude.{◌≡◌, ◌⊎◌, ℕ, ◌+◌, ◌<◌, Bool, true, false, List, [], ◌∷◌, Option, None, Some, slice_set}
+-- The words of free slots: the free slots of a page are a list in the order of their numbers (this project's own); and the words past the last slot.
+use Rattle.std.specs.Prelude.{◌≡◌, ◌⊎◌, ℕ, ◌+◌, ◌<◌, ◌≤◌, Bool, true, false, List, [], ◌∷◌, Option, None, Some, slice_index_or, slice_set}
 use Rattle.space_planes.specs.Planes.{bit}
-use Rattle.space_pages.specs.Slots.{slot_words, with_slot}
+use Rattle.space_pages.specs.Slots.{slots_end, slot_words, with_slot}
 
 -- no slot past this one is free
 abbrev pub IsLastFree : List Bool → ℕ → Type 0
@@ -32,6 +32,10 @@ slot_on (Some pool) words slot = slot_words words pool slot
 -- among these words of a page each free slot has its link
 abbrev pub AreLinked : Option ℕ → List ℕ → List Bool → Type 0
 AreLinked pool words free = (slot : ℕ) → bit free slot ≡ true → IsLinked free slot (slot_on pool words slot)
+
+-- each word of a page past the last slot is 0; of a spare page nothing is said
+abbrev pub IsClearPast : Option ℕ → List ℕ → Type 0
+IsClearPast pool words = (its k : ℕ) → pool ≡ Some its → slots_end its ≤ k → slice_index_or words k 0 ≡ 0
 
 -- the words of a page after the first two words of a free slot were written
 abbrev pub with_link : List ℕ → ℕ → ℕ → ℕ → List ℕ

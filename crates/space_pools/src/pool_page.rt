@@ -1,11 +1,11 @@
 // One page of the pools: its words, its pool, and which of its slots are free.
-ghost use Rattle.std.specs.Prelude.{◌≡◌, ℕ, ◌+◌, ◌<◌, ◌≤◌, length, Some, true, false, is_some, IfOk, MatchOption};
+ghost use Rattle.std.specs.Prelude.{◌≡◌, ℕ, ◌+◌, ◌<◌, ◌≤◌, length, slice_index_or, Some, true, false, is_some, IfOk, MatchOption};
 ghost use Rattle.std.specs.Borrow.{sem};
 ghost use Rattle.space_model.specs.Layout.{page_slots as slots_of_page};
 ghost use Rattle.space_planes.specs.Planes.{bit};
 ghost use Rattle.space_pools.specs.PageSlots.{free_page, spare_page, free_in, taken_in, found_in, width_of, held_in, freed_in, HoldsSlots, HasEachFree, IsPassedOver, IsFirstFree, TakesSlot};
-ghost use Rattle.space_pages.specs.Slots.{slot_words, words_of};
-ghost use Rattle.space_pools.specs.Links.{AreLinked, with_link};
+ghost use Rattle.space_pages.specs.Slots.{slot_words, slots_end, words_of};
+ghost use Rattle.space_pools.specs.Links.{AreLinked, IsClearPast, with_link};
 ghost use Rattle.space_pools.specs.PageLending.{LendsWithin, LendsOnPage};
 
 use space_model::{POOLS, page_slots};
@@ -102,7 +102,8 @@ fn put_link(words: &mut SlotPage, pool: u8, s: u32, link: u64)
     slot[1] = link;
 }
 
-// Writes the links of the slots of the plane, each slot once, from the first one on.
+// Writes the links of the slots of the plane, each slot once, from the first one on. All other slots
+// and the words past the last one stay.
 fn put_links(words: &mut SlotPage, pool: u8, free: &Plane)
     requires pool { pool < POOLS }
     requires slots { length free.now ≡ slots_of_page pool }
@@ -110,6 +111,7 @@ fn put_links(words: &mut SlotPage, pool: u8, free: &Plane)
     ensures whole { length words.new ≡ 8192 }
     ensures linked { AreLinked (Some pool) words.new free.now }
     ensures others { (slot : ℕ) → slot < length free.now → bit free.now slot ≡ false → slot_words words.new pool slot ≡ slot_words words.old pool slot }
+    ensures past { (k : ℕ) → slots_end pool ≤ k → slice_index_or words.new k 0 ≡ slice_index_or words.old k 0 }
 {
     let slots = free.len();
     let mut s = free_from(free, 0);
@@ -139,13 +141,14 @@ impl PoolPage {
         })
     }
 
-    // Makes it a page of the pool whose slots are all free.
+    // Makes it a page of the pool whose slots are all free. Old words past its last slot become 0.
     pub fn give(&mut self, pool: u8)
         requires { pool < POOLS }
         ensures { self.new ≡ free_page pool }
     {
         self.free.reset(slot_count(pool));
         self.free.fill(true);
+        self.words.clear_end(pool);
         put_links(&mut self.words, pool, &self.free);
         self.pool = Some(pool);
         self.lowest = 0;
@@ -236,6 +239,7 @@ impl PoolPage {
     pub fn words(&self) -> &SlotPage
         ensures whole { length result.now ≡ 8192 }
         ensures words { HoldsSlots self.now result.now }
+        ensures clear_past { IsClearPast self.now.pool result.now }
     {
         &self.words
     }

@@ -2,6 +2,7 @@
 ghost use Rattle.std.specs.Prelude.{◌≡◌, ◌↔◌, ℕ, ◌<◌, ◌≤◌, [], length, true, false, is_some, Some, Err, IfOk, OnErr, MatchOption};
 ghost use Rattle.std.specs.Borrow.{sem};
 ghost use Rattle.space_pools.specs.PageSlots.{HoldsSlots, HasEachFree, width_of};
+ghost use Rattle.space_pools.specs.Links.{IsClearPast};
 ghost use Rattle.space_pools.specs.PoolsView.{page_at, pool_at, unswept_at, free_at, taken_at, found_at, with_held_page, with_freed_page, with_spare_page};
 ghost use Rattle.space_pools.specs.Free.{IsLeastFree, HasNoFree, TakesLeast, IsLowestPlace, AreFull, TakesPlace};
 ghost use Rattle.space_pools.specs.Spare.{spare_count, IsSpareAt, HasNoSpare, IsLeastSpare, IsNextPage, IsAtLimit, with_free_page};
@@ -113,11 +114,12 @@ impl Pools {
         self.pages[page as usize].free_plane()
     }
 
-    /// The words of a page. Of those of its free slots nothing is said.
+    /// The words of a page. Of those of its free slots nothing is said; those past its last slot are 0.
     pub fn page(&self, page: u32) -> &SlotPage
         requires { page < length self.now.pages }
         ensures whole { length result.now ≡ 8192 }
         ensures words { HoldsSlots (page_at self.now page) result.now }
+        ensures clear_past { IsClearPast (pool_at self.now page) result.now }
     {
         self.pages[page as usize].words()
     }

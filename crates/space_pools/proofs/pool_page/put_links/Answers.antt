@@ -1,10 +1,10 @@
-use Rattle.std.proofs.Common.{◌≡◌, ℕ, ◌<◌, ◌∙◌, true≢false, refl, sym, ap, subst, length, true, arith, false}
+use Rattle.std.proofs.Common.{◌≡◌, ℕ, ◌<◌, ◌∙◌, true≢false, refl, sym, ap, subst, length, get_or, true, arith, false}
 use Rattle.space_planes.specs.Planes.{bit}
 use Rattle.space_planes.proofs.Bits.{within_from_bit}
 use Rattle.space_pages.specs.Slots.{slot_words}
 use Rattle.space_pages.proofs.SlotLaws.{length-with_slot}
 use Rattle.space_pools.specs.Links.{IsLink, IsLinked}
-use Rattle.space_pools.proofs.Linked.{link_is, more_linked, others_kept}
+use Rattle.space_pools.proofs.Linked.{link_is, more_linked, others_kept, past_kept}
 use Rattle.space_pools.proofs.pool_page.put_links.Goals as goal
 
 pub slots-init : goal.slots-init
@@ -13,6 +13,7 @@ slots-init c = record {
   whole = c.requires.whole;
   linked = λ slot h b. absurd (true≢false (sym b ∙ c.free_from-s.ensures.clear slot (omega arith) h));
   others = λ slot h clear. refl;
+  past = λ k h. refl;
 }
 
 pub slots-preserved : goal.slots-preserved
@@ -35,6 +36,7 @@ slots-preserved c =
       linked = subst (λ after. (k : ℕ) → k < c.free_from-next.result → bit free k ≡ true → IsLinked free k (slot_words after pool k)) put
           (more_linked pool free words s link c.requires.pool c.requires.slots before.whole at c.free_from-next.result clear is before.linked);
       others = λ k h clear. ap (λ after. slot_words after pool k) c.put_link.ensures ∙ others_kept pool free words s link c.requires.pool c.requires.slots before.whole at k h clear ∙ before.others k h clear;
+      past = λ k h. ap (λ after. get_or after k 0) c.put_link.ensures ∙ past_kept pool free words s link c.requires.pool c.requires.slots before.whole at k h ∙ before.past k h;
     }
 
 pub returns-clause-whole : goal.returns-clause-whole
@@ -45,3 +47,6 @@ returns-clause-linked c slot b = c.slots.invariant.linked slot (let h = within_f
 
 pub returns-clause-others : goal.returns-clause-others
 returns-clause-others c = c.slots.invariant.others
+
+pub returns-clause-past : goal.returns-clause-past
+returns-clause-past c = c.slots.invariant.past

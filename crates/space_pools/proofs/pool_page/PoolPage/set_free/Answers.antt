@@ -4,6 +4,7 @@ use Rattle.space_planes.specs.Planes.{bit}
 use Rattle.space_pools.specs.Links.{slot_on, AreLinked}
 use Rattle.space_pools.specs.Inside.{page_from}
 use Rattle.space_pools.proofs.Pages.{length-slots, freed}
+use Rattle.space_pools.proofs.Linked.{clear_after}
 use Rattle.space_pools.proofs.pool_page.PoolPage.set_free.Goals as goal
 
 pub put_links-requires-clause-slots : goal.put_links-requires-clause-slots
@@ -27,6 +28,7 @@ invariant_of-self c =
       within = subst (λ plane. c.free_from-self-inside.result ≤ length plane) (sym is) first.within;
       clear_below = λ k h. ap (λ plane. bit plane k) is ∙ first.clear k (omega arith) h;
       set_at = λ h. ap (λ plane. bit plane c.free_from-self-inside.result) is ∙ first.set (subst (λ plane. c.free_from-self-inside.result < length plane) is h);
+      clear_past = clear_after c.self.inside.pool c.known.result c.self.inside.words words c.known.ensures c.put_links.ensures.past c.self.invariant.clear_past;
       linked = subst (AreLinked c.self.inside.pool words) (sym is) (subst (λ pool. AreLinked pool words free) (sym c.known.ensures) c.put_links.ensures.linked);
     }
 

@@ -1,7 +1,7 @@
 use Rattle.std.proofs.Common.{ap, sym, refl, ◌∙◌, Some}
 use Rattle.space_pools.specs.PageSlots.{taken_in, found_in, width_of, written_in}
 use Rattle.space_pages.proofs.SlotLaws.{length-with_slot}
-use Rattle.space_pools.proofs.Pages.{slot_within, found_on, lent, linked_after_loan}
+use Rattle.space_pools.proofs.Pages.{slot_within, found_on, lent, linked_after_loan, clear_after_loan}
 use Rattle.space_pools.proofs.pool_page.PoolPage.slot_mut.Goals as goal
 
 pub slot_within-requires-clause-slot : goal.slot_within-requires-clause-slot
@@ -32,5 +32,6 @@ invariant_of-self-lent c = λ w.
       within = known.within;
       clear_below = known.clear_below;
       set_at = known.set_at;
+      clear_past = clear_after_loan p c.known-pool.result c.args.s w known c.known-pool.ensures taken;
       linked = linked_after_loan p c.known-pool.result c.args.s w known c.known-pool.ensures taken;
     }

@@ -38,6 +38,7 @@ invariant_of-self c =
     let next = c.free_from-self-inside.ensures in
     record {
       whole = c.self.invariant.whole;
+      clear_past = c.self.invariant.clear_past;
       known = c.self.invariant.known;
       long = long ∙ c.self.invariant.long;
       within = omega arith;
