@@ -19,7 +19,8 @@ use Rattle.space_model.specs.Moments.{noted}
 use Rattle.space_model.specs.Operands.{operand_value, input_value, value_word, word_value, named_by}
 use Rattle.space_model.specs.Pieces.{rooted, unrooted, stacked, stored}
 use Rattle.space_model.specs.Refusals.{both}
-use Rattle.space_model.specs.Sound.{IsSmall, IsSmallInput}
+use Rattle.space_model.specs.GivenIntegers.{IsSmallInput}
+use Rattle.space_model.specs.Sound.{IsSmall}
 use Rattle.space_model.specs.StackAnswers.{Raws}
 use Rattle.space_model.specs.State.{State}
 use Rattle.space_model.proofs.MapLaws.{some_get}
@@ -37,10 +38,6 @@ use Rattle.space_engine.proofs.RootWords.{with_root_word-word_roots, without_wor
 use Rattle.space_engine.proofs.Reading.{root_absent, root_there}
 use Rattle.space_engine.proofs.Storing.{stored_represents}
 use Rattle.space_engine.proofs.Outcomes.{ok_same}
-
--- nothing was made, since memory was lacking
-pub not_made : (v : View) (s : State) (root : List ℕ) (fields : ℕ) (guard : Guard) (style : Style) → fields ≤ 78 → Holds v s → Answers s v (New root fields guard style) NoMemory
-not_made v s root fields guard style few h = record { state = s; represents = h.represents; idle = h.idle; effects = (few, refl, refl) }
 
 -- an object can't have so many fields
 pub too_large : (v : View) (s : State) (root : List ℕ) (fields : ℕ) (guard : Guard) (style : Style) → 78 < fields → Holds v s → Answers s v (New root fields guard style) (Refused TooLarge)

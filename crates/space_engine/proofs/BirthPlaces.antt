@@ -7,31 +7,33 @@ use Rattle.space_model.specs.declared.command.Command.TheVariants.{New}
 use Rattle.space_model.specs.declared.object.Guard.{Guard}
 use Rattle.space_model.specs.declared.object.Style.{Style}
 use Rattle.space_model.specs.declared.phase.Phase.TheVariants.{Idle}
-use Rattle.space_model.specs.declared.reply.Reply.TheVariants.{Made}
+use Rattle.space_model.specs.declared.reply.Reply.TheVariants.{Made, NoMemory}
 use Rattle.space_model.specs.Layout.{page_of, pool_for}
 use Rattle.space_model.specs.Moments.{noted}
-use Rattle.space_model.specs.New.{IsBirthPlace, IsAtLimit}
+use Rattle.space_model.specs.New.{IsBirthPlace, IsAtLimit, NeedsPage}
 use Rattle.space_model.specs.Pages.{pool_at as pool_of_page, with_pool}
 use Rattle.space_model.specs.Pieces.{born, Born}
+use Rattle.space_model.specs.Places.{IsPoolFull, HasNoSpare}
 use Rattle.space_model.specs.Sound.{Sound}
 use Rattle.space_model.specs.State.{State}
 use Rattle.space_model.proofs.PageLaws.{pool_at-with_pool, page_of-slot_address}
 use Rattle.space_heap.specs.Slots.{new_object}
 use Rattle.space_heap.specs.HeapView.{HeapView, with_page}
 use Rattle.space_heap.specs.Objects.{placed}
-use Rattle.space_heap.specs.FreeSlots.{IsFreeAt, IsLeastFree}
-use Rattle.space_heap.specs.NewPages.{IsLeastSpare}
+use Rattle.space_heap.specs.FreeSlots.{IsFreeAt, IsLeastFree, HasNoFree}
+use Rattle.space_heap.specs.NewPages.{IsLeastSpare, HasNoSpare as HasNoSpareHeap}
 use Rattle.space_heap.proofs.FreeLaws.{is_moved-with_page}
 use Rattle.space_heap.proofs.NewPageLaws.{stands-with_page, is_object-with_page, object_of-with_page}
 use Rattle.space_heap.proofs.NewPageSlots.{rest-with_page}
-use Rattle.space_collector.specs.Births.{GetsPage, IsBirth, LacksRoom}
-use Rattle.space_engine.specs.Births.{IsRootedBirth}
+use Rattle.space_collector.specs.Births.{GetsPage, IsBirth, LacksRoom, WantsPage}
+use Rattle.space_engine.specs.Births.{IsRootedBirth, WantsMemory}
 use Rattle.space_collector.proofs.PagesGiven.{has_slot, known_pool}
 use Rattle.space_engine.specs.Stands.{Represents, Holds}
 use Rattle.space_engine.specs.Steps.{Answers}
 use Rattle.space_engine.specs.Views.{View, with_heap, with_root_written}
 use Rattle.space_engine.proofs.FreshPages.{fresh_pages, first_of_page, fresh_page}
 use Rattle.space_engine.proofs.Pages.{pages_renamed}
+use Rattle.space_engine.proofs.Reading.{root_absent}
 use Rattle.space_engine.proofs.Placing.{IsRoomy, placed_represents}
 
 -- a page with a pool gets it again
@@ -164,10 +166,42 @@ module _ (v w : View) (s : State) (held : Holds v s) (root : List ℕ) (fields :
         effects = record { few = few; next = b.next; ready = s; readied = inl (refl, refl); place = b.place; after = b.after };
       }
 
+-- where no address is free and no page is spare in the heap, it is so in the state
+no_room : (v : View) (s : State) (pool : ℕ) → Represents v s → HasNoFree v.heap pool → HasNoSpareHeap v.heap → IsPoolFull s pool × HasNoSpare s
+no_room v s pool h none spares = (
+  λ b f. true≢false (sym ((h.pages.free pool b).0 f) ∙ none b),
+  λ page spare. spares page (let c = h.pages.count in let lt = spare.0 in omega arith, sym (h.pages.pools page) ∙ spare.1),
+)
+
 -- where there is no room in the heap, there is none in the state
 pub at_limit : (v : View) (s : State) (pool : ℕ) → Represents v s → LacksRoom v.heap pool → IsAtLimit s pool
-at_limit v s pool h (none, full) = record {
-  none_free = λ b f. true≢false (sym ((h.pages.free pool b).0 f) ∙ none b);
-  none_spare = λ page spare. full.0 page (let c = h.pages.count in let lt = spare.0 in omega arith, sym (h.pages.pools page) ∙ spare.1);
-  limit = h.pages.count ∙ full.1 ∙ sym h.pages.limit;
+at_limit v s pool h (none, full) =
+    let lacks = no_room v s pool h none full.0 in
+    record { none_free = lacks.0; none_spare = lacks.1; limit = h.pages.count ∙ full.1 ∙ sym h.pages.limit }
+
+-- where an object needs a page in the heap, it needs one in the state
+needs_page : (v : View) (s : State) (pool : ℕ) → Holds v s → WantsPage v.heap pool → NeedsPage s pool
+needs_page v s pool h w =
+    let full = no_room v s pool h.represents w.none_free w.none_spare in
+    record {
+      none_free = full.0;
+      none_spare = full.1;
+      below =
+          let most = h.sound.layout.limited in
+          let other : length s.heap.pages ≡ s.heap.limit → ⊥ = λ e. w.below (sym h.represents.pages.count ∙ e ∙ h.represents.pages.limit) in
+          omega arith;
+    }
+
+-- nothing was made, since memory was lacking
+pub not_made : (v : View) (s : State) (root : List ℕ) (fields : ℕ) (guard : Guard) (style : Style) → fields ≤ 78 → WantsMemory v root (pool_for fields) → Holds v s → Answers s v (New root fields guard style) NoMemory
+not_made v s root fields guard style few wanted h = record {
+  state = s;
+  represents = h.represents;
+  idle = h.idle;
+  effects = record {
+    few = few;
+    wanted = ⊎_elim (λ none. inl (root_absent v s h root none)) (λ page. inr (needs_page v s (pool_for fields) h page)) wanted;
+    silent = refl;
+    unchanged = refl;
+  };
 }

@@ -14,7 +14,7 @@ use Rattle.space_model.specs.declared.reply.Refusal.TheVariants.{NoRoot, NoWord,
 use Rattle.space_model.specs.declared.value.Value.{Value}
 use Rattle.space_model.specs.declared.value.Value.TheVariants.{Nil, Small, Name}
 use Rattle.space_model.specs.Operands.{named_by, value_word, word_value, word_value_in, operand_value}
-use Rattle.space_model.specs.Reached.{names_at}
+use Rattle.space_model.specs.Maps.{names_at}
 use Rattle.space_model.specs.Roots.{root_value}
 use Rattle.space_model.specs.State.{State}
 use Rattle.space_model.specs.Words.{IsSmallWord}

@@ -11,7 +11,7 @@ use Rattle.space_model.specs.declared.reply.Reply.{Reply}
 use Rattle.space_model.specs.declared.reply.Reply.TheVariants.{Made, Full, NoMemory, Done, Pushed, Read, Truth, Scanned, Refused}
 use Rattle.space_model.specs.Lawful.{Lawful}
 use Rattle.space_model.specs.Outputs.{Output, Told, Replied}
-use Rattle.space_model.specs.Sound.{IsGivenSmall}
+use Rattle.space_model.specs.GivenIntegers.{IsGivenSmall}
 use Rattle.space_model.specs.Spelling.{IsSpelled}
 use Rattle.space_model.specs.State.{State}
 use Rattle.space_model.specs.Texts.{text_of, reply_pieces, line_of_pieces, AreSpelled}

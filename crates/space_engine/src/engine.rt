@@ -1,7 +1,7 @@
 // The parts of a space, and its answers.
 ghost use Rattle.std.specs.Prelude.{◌≡◌, ◌≤◌, ◌<◌, ◌+◌, ◌^◌, IfOk, OnErr};
 ghost use Rattle.space_io.specs.Causes.{HasCause};
-ghost use Rattle.space_model.specs.Sound.{IsGivenSmall};
+ghost use Rattle.space_model.specs.GivenIntegers.{IsGivenSmall};
 ghost use Rattle.space_model.specs.State.{opening};
 ghost use Rattle.space_collector.specs.Ticks.{RisesByFewer};
 ghost use Rattle.space_engine.specs.Answered.{IsAnswered, IsCutOff};

@@ -2,7 +2,7 @@
 ghost use Rattle.std.specs.Prelude.{◌≡◌, ◌≤◌, ◌<◌, ◌+◌, ◌^◌, false, IfOk, OnErr, is_err};
 ghost use Rattle.space_io.specs.Causes.{HasCause};
 ghost use Rattle.space_io.specs.Sinks.{AppendsPrefix};
-ghost use Rattle.space_model.specs.Sound.{IsGivenSmall};
+ghost use Rattle.space_model.specs.GivenIntegers.{IsGivenSmall};
 ghost use Rattle.space_model.specs.State.{State, opening};
 ghost use Rattle.space_model.specs.Texts.{text_of};
 ghost use Rattle.space_collector.specs.Ticks.{RisesByFewer};

@@ -24,8 +24,10 @@ pub mod VerdictLaws
 pub mod SweptLaws
 pub mod WholeLaws
 pub mod FullLaws
-pub mod ReachedStay
+pub mod PlacesAfter
 pub mod SoundKept
+pub mod WordsKept
+pub mod GivenSmall
 pub mod Cutting
 pub mod Apart
 pub mod RunLemmas

@@ -11,7 +11,8 @@ use Rattle.space_model.specs.Graph.{Item, no_item, names_of, children, IsChild}
 use Rattle.space_model.specs.State.{State}
 use Rattle.space_model.specs.Reach.{IsReached, IsStart, Reach}
 use Rattle.space_model.specs.Roots.{root_names}
-use Rattle.space_model.specs.Reached.{is_at, names_at, start_names, field_names, reached_in, reached_names}
+use Rattle.space_model.specs.Maps.{is_at, names_at}
+use Rattle.space_model.specs.Reached.{start_names, field_names, reached_in, reached_names}
 use Rattle.space_model.proofs.Members.{member_left, member_right, member_cases, member_flat, member_unflat, member_filter}
 use Rattle.space_model.proofs.Reaching.{IsReached-start, IsReached-least, IsReached-mono}
 use Rattle.space_model.proofs.Growing.{IsPart, grown_times-part, grown_times-whole, nothing-part}

@@ -30,7 +30,8 @@ use Rattle.space_model.specs.Outputs.{Output}
 use Rattle.space_model.specs.Pieces.{new_item, item_stored, born, rooted, unrooted, stacked, stored}
 use Rattle.space_model.specs.Reach.{IsStart, Reach}
 use Rattle.space_model.specs.Roots.{root_names, root_value}
-use Rattle.space_model.specs.Sound.{AreSlots, Sound, IsSmall, IsSmallInput, IsGivenSmall, AreGivenSmall}
+use Rattle.space_model.specs.GivenIntegers.{IsSmallInput, IsGivenSmall, AreGivenSmall}
+use Rattle.space_model.specs.Sound.{AreSlots, Sound, IsSmall}
 use Rattle.space_model.specs.StackAnswers.{Raws, PushReply, Pops}
 use Rattle.space_model.specs.State.{State, opening}
 use Rattle.space_model.proofs.AfterPieces.{after_piece}
@@ -199,7 +200,7 @@ new_sound : (s t : State) (root : List ℕ) (fields : ℕ) (guard : Guard) (styl
 new_sound s t root fields guard style events (Made name address) e h =
     Sound-born e.ready t root fields guard style address e.few e.place e.after (Sound-ready s e.ready (pool_for fields) events e.readied h)
 new_sound s t root fields guard style events Full e h = Sound-collects_all s t events e.collected.scans e.collected.collects h
-new_sound s t root fields guard style events NoMemory e h = subst Sound (sym e.2) h
+new_sound s t root fields guard style events NoMemory e h = subst Sound (sym e.unchanged) h
 new_sound s t root fields guard style events (Refused why) e h = subst Sound (sym e.3) h
 new_sound s t root fields guard style events _ e h = absurd e
 

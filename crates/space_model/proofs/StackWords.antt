@@ -20,8 +20,9 @@ use Rattle.space_model.specs.Graph.{Item}
 use Rattle.space_model.specs.Layout.{slot_address, slot_bytes}
 use Rattle.space_model.specs.Operands.{named_by, value_word, word_value, word_value_in, operand_value, input_value}
 use Rattle.space_model.specs.Reach.{Named}
-use Rattle.space_model.specs.Reached.{names_at}
-use Rattle.space_model.specs.Sound.{Sound, AreSlots, IsSmall, IsSmallInput, pool_of}
+use Rattle.space_model.specs.Maps.{names_at}
+use Rattle.space_model.specs.GivenIntegers.{IsSmallInput}
+use Rattle.space_model.specs.Sound.{Sound, AreSlots, IsSmall, pool_of}
 use Rattle.space_model.specs.StackAnswers.{Raws, PushReply, Pushes}
 use Rattle.space_model.specs.State.{State}
 use Rattle.space_model.specs.Words.{small_number_word}

@@ -17,10 +17,10 @@ use Rattle.space_model.specs.declared.value.Value.TheVariants.{Nil, Small, Name}
 use Rattle.space_model.specs.Answers.{field_value, written_field}
 use Rattle.space_model.specs.Graph.{item_of}
 use Rattle.space_model.specs.Operands.{word_value, word_value_in, operand_value, input_value, object_in, field_in}
-use Rattle.space_model.specs.Reached.{names_at}
+use Rattle.space_model.specs.Maps.{names_at}
 use Rattle.space_model.specs.Refusals.{and_then}
 use Rattle.space_model.specs.Roots.{root_value}
-use Rattle.space_model.specs.Sound.{IsSmallInput}
+use Rattle.space_model.specs.GivenIntegers.{IsSmallInput}
 use Rattle.space_model.specs.State.{State}
 use Rattle.space_model.proofs.ReachedLaws.{member-names_at}
 

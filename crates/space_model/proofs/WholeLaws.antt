@@ -1,10 +1,10 @@
 -- A whole collection keeps states sound, and what the state is like after `gc`.
-use Rattle.std.proofs.Common.{◌≡◌, ◌&&◌, not, nat_eq, ℕ, true, false, None, Some, List, [], ◌∷◌, length, refl, sym, ap, ◌∙◌, subst}
+use Rattle.std.proofs.Common.{◌≡◌, ◌&&◌, not, nat_eq, ℕ, true, false, Some, List, [], ◌∷◌, ◌++◌, length, refl, sym, ap, ◌∙◌, subst}
 use Rattle.std.specs.Prelude.{is_some, ◌↔◌}
 use Rattle.std.specs.List.{filter}
 use Rattle.std.specs.Set.{is_member}
 use Rattle.std.specs.FinMap.{get, keys}
-use Rattle.std.proofs.lemmas.Bool.{and_parts, and_from, not-true, false≢true, false_from_ne_true, cond-false}
+use Rattle.std.proofs.lemmas.Bool.{and_parts, and_from, not-true, false≢true, false_from_ne_true}
 use Rattle.space_model.specs.declared.event.Event.{Event}
 use Rattle.space_model.specs.declared.event.Kind.TheVariants.{Full}
 use Rattle.space_model.specs.declared.phase.Phase.{Phase}
@@ -25,7 +25,7 @@ use Rattle.space_model.specs.WholeCollections.{verdict_events, IsCollection, Col
 use Rattle.space_model.proofs.CollectionsKept.{Sound-start, Sound-mark_started, Sound-took, Sound-swept_all}
 use Rattle.space_model.proofs.CorpseNames.{freed_pages, swept_pages, SweepAll-there}
 use Rattle.space_model.proofs.SweptLaws.{IsCollected, collected, SweepAll-swept}
-use Rattle.space_model.proofs.MapLaws.{present_at, get-without}
+use Rattle.space_model.proofs.MapLaws.{present_at}
 use Rattle.space_model.proofs.Members.{member_filter}
 use Rattle.space_model.proofs.ReachedLaws.{member-keys, member-reached_names}
 use Rattle.space_model.proofs.RisingNames.{rising_names, IsRising-rising_names, member-rising_names}
@@ -178,20 +178,37 @@ collects_idle s t events scans c =
 pub collects_none_waits : (s t : State) (events : List Event) (scans : ℕ) → CollectsAll s events scans t → t.heap.unswept ≡ []
 collects_none_waits s t events scans c = (SweepAll-swept c.unswept t c.freed c.sweeps).none_waits
 
--- what was reached before it stays where it stood
-pub collects_place : (s t : State) (events : List Event) (scans : ℕ) → CollectsAll s events scans t → (n : ℕ) → Reach s n → get t.heap.place n ≡ get s.heap.place n
-collects_place s t events scans c n r =
+completion_silent : (phase : Phase) (s t : State) (events : List Event) → CompletesIn phase s events t → events ≡ []
+completion_silent Idle s t events c = c.0
+completion_silent Marking s t events c = absurd c
+completion_silent Sweeping s t events c = c.1
+completion_silent Moving s t events c = absurd c
+completion_silent Fixing s t events c = absurd c
+
+-- its events are those of its verdict
+pub collects_events : (s t : State) (events : List Event) (scans : ℕ) (c : CollectsAll s events scans t) → events ≡ verdict_events Full c.collects.taken
+collects_events s t events scans c =
     let k = c.collects in
-    let idle : k.idle.heap.place ≡ s.heap.place = (completion_same s.collector.phase s k.idle k.completion k.completes).place in
-    let marked : k.marked.heap.place ≡ k.idle.heap.place = ap (λ (u : State). u.heap.place) k.starts in
-    let left : c.unswept.heap.place ≡ without k.marked.heap.place k.taken = ap (λ (u : State). u.heap.place) k.takes in
+    k.events_are ∙ ap (λ completion. completion ++ verdict_events Full k.taken) (completion_silent s.collector.phase s k.idle k.completion k.completes)
+
+-- the verdict is about what stood there before it
+pub marked_place : (s t : State) (events : List Event) (scans : ℕ) (c : CollectsAll s events scans t) → c.collects.marked.heap.place ≡ s.heap.place
+marked_place s t events scans c =
+    let k = c.collects in
+    ap (λ (u : State). u.heap.place) k.starts ∙ (completion_same s.collector.phase s k.idle k.completion k.completes).place
+
+-- and what was reached before it is reached then
+pub marked_reached : (s t : State) (events : List Event) (scans : ℕ) (c : CollectsAll s events scans t) (n : ℕ) → Reach s n → Reach c.collects.marked n
+marked_reached s t events scans c n r =
+    let k = c.collects in
+    (marked_reach k.idle k.marked k.starts n).1 ((completed_reach s k.idle k.completion k.completes n).1 r)
+
+-- what it doesn't take stays where it stood
+pub collects_place : (s t : State) (events : List Event) (scans : ℕ) (c : CollectsAll s events scans t) → t.heap.place ≡ without s.heap.place c.collects.taken
+collects_place s t events scans c =
     let swept : t.heap.place ≡ c.unswept.heap.place = (SweepAll-swept c.unswept t c.freed c.sweeps).place in
-    let reached : Reach k.marked n = (marked_reach k.idle k.marked k.starts n).1 ((completed_reach s k.idle k.completion k.completes n).1 r) in
-    let stays : is_member nat_eq k.taken n ≡ false = false_from_ne_true _ (λ m. k.verdict.unreached n m reached) in
-    ap (λ place. get place n) (swept ∙ left)
-    ∙ get-without k.marked.heap.place k.taken n
-    ∙ cond-false (is_member nat_eq k.taken n) None (get k.marked.heap.place n) stays
-    ∙ ap (λ place. get place n) (marked ∙ idle)
+    let taken : c.unswept.heap.place ≡ without c.collects.marked.heap.place c.collects.taken = ap (λ (u : State). u.heap.place) c.collects.takes in
+    swept ∙ taken ∙ ap (λ place. without place c.collects.taken) (marked_place s t events scans c)
 
 pub Sound-collection : (s t : State) (events : List Event) (scans : ℕ) → IsCollection s events scans t → Sound s → Sound t
 Sound-collection s t events scans c h =

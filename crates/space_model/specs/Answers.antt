@@ -1,4 +1,5 @@
--- The replies of commands that make no choice, and the states after them.
+-- The replies of commands on roots and objects, and the states after them. They choose nothing, but that memory may be lacking for a new
+-- root.
 use Rattle.std.specs.Prelude.{◌≡◌, ◌⊎◌, ℕ, ◌==◌, Bool, true, false, List, Option, None, Some, Result, Ok, Err}
 use Rattle.space_model.specs.declared.command.Input.{Input}
 use Rattle.space_model.specs.declared.command.Operand.{Operand}

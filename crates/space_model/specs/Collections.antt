@@ -28,7 +28,7 @@ unfoldable pub aged : FinMap nat_cmp ℕ → List ℕ → List ℕ
 aged place outlived =
     map (λ index. slice_index_or outlived index 0 + (if is_some (get place (index + 1)) then 1 else 0)) (range_with_len 0 (length outlived))
 
--- Sweeping while pages wait for it
+-- the phase where these pages wait for a sweep: Sweeping, or Idle where none does
 abbrev pub sweep_phase : List ℕ → Phase
 sweep_phase [] = Idle
 sweep_phase (page ∷ pages) = Sweeping

@@ -25,6 +25,7 @@ pub mod StackAnswers
 pub mod New
 pub mod Lawful
 pub mod Sound
+pub mod GivenIntegers
 pub mod Spelling
 pub mod Grammar
 pub mod CommandTexts

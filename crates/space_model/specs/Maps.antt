@@ -1,11 +1,21 @@
--- Maps from names to addresses: names in ascending order, a map without some names, and names that go over to another map.
-use Rattle.std.specs.Prelude.{ℕ, ◌<◌, not, List, [], ◌∷◌, nat_eq, unwrap_or}
-use Rattle.std.specs.List.{AllPairs}
+-- Maps from names to addresses: the names at an address, names in ascending order, a map without some names, and names that go over to
+-- another map.
+use Rattle.std.specs.Prelude.{ℕ, ◌<◌, ◌==◌, not, Bool, false, List, [], ◌∷◌, nat_eq, Option, None, Some, unwrap_or}
+use Rattle.std.specs.List.{AllPairs, filter}
 use Rattle.std.specs.Ordering.{nat_cmp}
 use Rattle.std.specs.Set.{is_member}
-use Rattle.std.specs.FinMap.{FinMap, get, insert, retain_keys}
+use Rattle.std.specs.FinMap.{FinMap, get, insert, keys, retain_keys}
 
--- the address of a name of the map
+-- whether there is a place, and it is this address
+abbrev pub is_at : ℕ → Option ℕ → Bool
+is_at address None = false
+is_at address (Some place) = place == address
+
+-- the names that stand at the address
+unfoldable pub names_at : FinMap nat_cmp ℕ → ℕ → List ℕ
+names_at place address = filter (λ name. is_at address (get place name)) (keys place)
+
+-- the address of a name of the map; 0 where it has none
 abbrev pub address_in : FinMap nat_cmp ℕ → ℕ → ℕ
 address_in map name = unwrap_or (get map name) 0
 

@@ -19,14 +19,10 @@ is_protected_guard Unprotected = false
 abbrev pub outlived_by : List ℕ → ℕ → ℕ
 outlived_by outlived name = slice_index_or outlived (name - 1) 0
 
--- present, protected, and outlived three verdicts or more
+-- whether the name is old: present, protected, and outlived three verdicts or more
 unfoldable pub is_old_in : List Item → FinMap nat_cmp ℕ → List ℕ → ℕ → Bool
 is_old_in graph place outlived name =
     is_some (get place name) && (is_protected_guard (item_of graph name).guard && nat_le 3 (outlived_by outlived name))
-
--- whether the name is old in the state
-abbrev pub is_old : State → ℕ → Bool
-is_old s name = is_old_in s.graph s.heap.place s.collector.outlived name
 
 -- the present names with a child that isn't old
 unfoldable pub parents_of_young_in : List Item → FinMap nat_cmp ℕ → List ℕ → List ℕ
@@ -41,7 +37,7 @@ parents_of_young s = parents_of_young_in s.graph s.heap.place s.collector.outliv
 unfoldable pub with_names : List ℕ → List ℕ → List ℕ
 with_names more names = filter (λ name. not (is_member nat_eq names name)) more ++ names
 
--- the state with what is now reached and mixed
+-- the state after it was noted what is reached now, and who has a young child now
 abbrev pub noted : State → State
 noted s = record s {
   history = record s.history {

@@ -1,5 +1,5 @@
 -- Where a new object stands, and what `new` replies. The order in which a slot is looked for is this project's own.
-use Rattle.std.specs.Prelude.{◌≡◌, ◌⊎◌, ℕ, ◌+◌, ◌≤◌, ◌<◌, List, [], length}
+use Rattle.std.specs.Prelude.{◌≡◌, ◌⊎◌, ℕ, ◌+◌, ◌≤◌, ◌<◌, List, [], length, None}
 use Rattle.space_model.specs.declared.event.Event.{Event}
 use Rattle.space_model.specs.declared.object.Guard.{Guard}
 use Rattle.space_model.specs.declared.object.Style.{Style}
@@ -9,6 +9,7 @@ use Rattle.space_model.specs.declared.reply.Reply.TheVariants.{Made, Full, NoMem
 use Rattle.space_model.specs.Layout.{pool_for, slot_address}
 use Rattle.space_model.specs.Pieces.{Born}
 use Rattle.space_model.specs.Places.{IsNewAt, IsPoolFull, HasNoSpare, IsFreshPage}
+use Rattle.space_model.specs.Roots.{root_value}
 use Rattle.space_model.specs.State.{State}
 use Rattle.space_model.specs.WholeCollections.{CollectsAll}
 
@@ -54,10 +55,23 @@ pub record MakesNone (s : State) (fields : ℕ) (events : List Event) (t : State
   pub collected : CollectsFirst s (pool_for fields) events t
   pub limit : IsAtLimit t (pool_for fields)
 
--- the events and the reply of `new`. A refusal, and want of memory, leave the state as it was: memory is sought before a collection
+-- an object needs a new page: no address is free for its pool, no page is spare, and there are fewer pages than may be
+pub record NeedsPage (s : State) (pool : ℕ) : Type 0 where
+  pub none_free : IsPoolFull s pool
+  pub none_spare : HasNoSpare s
+  pub below : length s.heap.pages < s.heap.limit
+
+-- memory was lacking for the root, which is new, or for a new page. Nothing was changed: memory is sought before a collection
+pub record LacksMemory (s : State) (root : List ℕ) (fields : ℕ) (events : List Event) (t : State) : Type 0 where
+  pub few : fields ≤ 78
+  pub wanted : (root_value s.roots root ≡ None) ⊎ NeedsPage s (pool_for fields)
+  pub silent : events ≡ []
+  pub unchanged : t ≡ s
+
+-- the events and the reply of `new`. A refusal leaves the state as it was
 abbrev pub News : State → List ℕ → ℕ → Guard → Style → List Event → Reply → State → Type 0
 News s root fields guard style events (Made name address) t = Makes s root fields guard style events name address t
 News s root fields guard style events Full t = MakesNone s fields events t
-News s root fields guard style events NoMemory t = (fields ≤ 78) × (events ≡ []) × (t ≡ s)
+News s root fields guard style events NoMemory t = LacksMemory s root fields events t
 News s root fields guard style events (Refused why) t = (78 < fields) × (why ≡ TooLarge) × (events ≡ []) × (t ≡ s)
 News s root fields guard style events _ t = ⊥

@@ -12,7 +12,7 @@ use Rattle.space_model.specs.declared.reply.Refusal.TheVariants.{NoRoot, NoWord,
 use Rattle.space_model.specs.declared.value.Value.{Value}
 use Rattle.space_model.specs.declared.value.Value.TheVariants.{Nil, Small, Name}
 use Rattle.space_model.specs.Graph.{Item}
-use Rattle.space_model.specs.Reached.{names_at}
+use Rattle.space_model.specs.Maps.{names_at}
 use Rattle.space_model.specs.Roots.{Root, root_value}
 use Rattle.space_model.specs.State.{State}
 use Rattle.space_model.specs.Words.{small_number_word}
@@ -21,7 +21,8 @@ use Rattle.space_model.specs.Words.{small_number_word}
 abbrev pub named_by : FinMap nat_cmp ℕ → ℕ → Option ℕ
 named_by place word = slice_get (names_at place word) 0
 
--- the word of a value: 0 for nil, 2i + 1 for a small integer i, its place for a name, which is present wherever it is a value
+-- the word of a value: 0 for nil, 2i + 1 for a small integer i, its place for a name, which is present where a root or a
+-- field of a present object holds it; 0 where it isn't
 abbrev pub value_word : FinMap nat_cmp ℕ → Value → ℕ
 value_word place Nil = 0
 value_word place (Small number) = small_number_word number
@@ -44,7 +45,7 @@ abbrev pub operand_value_in : List Root → List ℕ → FinMap nat_cmp ℕ → 
 operand_value_in roots stack place (RootOperand name) = ok_or (root_value roots name) NoRoot
 operand_value_in roots stack place (Word k) = word_value_in place (slice_get (reverse stack) k)
 
--- the same, in a state
+-- the value of an operand, in a state
 abbrev pub operand_value : State → Operand → Result Value Refusal
 operand_value s operand = operand_value_in s.roots s.stack s.heap.place operand
 
@@ -54,7 +55,7 @@ input_value_in roots stack place (From operand) = operand_value_in roots stack p
 input_value_in roots stack place NilInput = Ok Nil
 input_value_in roots stack place (SmallInput number) = Ok (Small number)
 
--- the same, in a state
+-- the value that a command is given, in a state
 abbrev pub input_value : State → Input → Result Value Refusal
 input_value s input = input_value_in s.roots s.stack s.heap.place input
 

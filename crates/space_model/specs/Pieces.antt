@@ -38,7 +38,7 @@ Born s root fields guard style address t = t ≡ noted (born s root fields guard
 abbrev pub rooted : State → List ℕ → Value → State
 rooted s root value = record s { roots = with_root s.roots root value }
 
--- t is that state, with what is reached noted
+-- t is the state after the root holds the value, with what is reached noted
 abbrev pub Rooted : State → List ℕ → Value → State → Type 0
 Rooted s root value t = t ≡ noted (rooted s root value)
 
@@ -46,7 +46,7 @@ Rooted s root value t = t ≡ noted (rooted s root value)
 abbrev pub unrooted : State → List ℕ → State
 unrooted s root = record s { roots = without_root s.roots root }
 
--- t is that state, with what is reached noted
+-- t is the state after the root is taken away, with what is reached noted
 abbrev pub Unrooted : State → List ℕ → State → Type 0
 Unrooted s root t = t ≡ noted (unrooted s root)
 
@@ -54,7 +54,7 @@ Unrooted s root t = t ≡ noted (unrooted s root)
 abbrev pub stacked : State → List ℕ → State
 stacked s words = record s { stack = words }
 
--- t is that state, with what is reached noted
+-- t is the state after the stack has these words, with what is reached noted
 abbrev pub Stacked : State → List ℕ → State → Type 0
 Stacked s words t = t ≡ noted (stacked s words)
 
@@ -69,6 +69,6 @@ stored s name index value = record s {
   collector = record s.collector { stale = filter (λ pair. not (nat_eq pair.0 name && nat_eq pair.1 index)) s.collector.stale };
 }
 
--- t is that state, with what is reached noted
+-- t is the state after the field holds the value, with what is reached noted
 abbrev pub Stored : State → ℕ → ℕ → Value → State → Type 0
 Stored s name index value t = t ≡ noted (stored s name index value)

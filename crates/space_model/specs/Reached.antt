@@ -1,10 +1,11 @@
 -- The reached names as a list: one name is added at a time, until none is left. A law of this crate says that it lists what is reached.
-use Rattle.std.specs.Prelude.{ℕ, zero, suc, not, Bool, false, List, [], ◌∷◌, ◌++◌, length, nat_eq, ◌==◌, Option, None, Some}
-use Rattle.std.specs.List.{flat_map, filter, find}
+use Rattle.std.specs.Prelude.{ℕ, zero, suc, not, List, [], ◌∷◌, ◌++◌, length, nat_eq, Option, None, Some}
+use Rattle.std.specs.List.{flat_map, find}
 use Rattle.std.specs.Ordering.{nat_cmp}
 use Rattle.std.specs.Set.{is_member}
-use Rattle.std.specs.FinMap.{FinMap, get, keys}
+use Rattle.std.specs.FinMap.{FinMap}
 use Rattle.space_model.specs.Graph.{Item, names_of, children}
+use Rattle.space_model.specs.Maps.{names_at}
 use Rattle.space_model.specs.State.{State}
 use Rattle.space_model.specs.Roots.{Root, root_names}
 
@@ -22,15 +23,6 @@ abbrev pub grown_times : List ℕ → (ℕ → List ℕ) → ℕ → List ℕ �
 grown_times starts children_of zero names = names
 grown_times starts children_of (suc times) names = grown_times starts children_of times (grown starts children_of names)
 
--- whether there is a place, and it is this address
-abbrev pub is_at : ℕ → Option ℕ → Bool
-is_at address None = false
-is_at address (Some place) = place == address
-
--- the names that stand at the address
-unfoldable pub names_at : FinMap nat_cmp ℕ → ℕ → List ℕ
-names_at place address = filter (λ name. is_at address (get place name)) (keys place)
-
 -- the names that roots hold, and those that stack words name
 unfoldable pub start_names : List Root → List ℕ → FinMap nat_cmp ℕ → List ℕ
 start_names roots stack place = root_names roots ++ flat_map (names_at place) stack
@@ -39,7 +31,7 @@ start_names roots stack place = root_names roots ++ flat_map (names_at place) st
 unfoldable pub field_names : List Item → List ℕ
 field_names graph = flat_map (λ item. flat_map names_of item.values) graph
 
--- as many steps as roots, stack words and fields hold names, so that no name is left to add
+-- the names that are reached: as many steps as roots, stack words and fields hold names, so that none is left to add
 unfoldable pub reached_in : List Item → List Root → List ℕ → FinMap nat_cmp ℕ → List ℕ
 reached_in graph roots stack place =
     grown_times (start_names roots stack place) (children graph) (length (start_names roots stack place ++ field_names graph)) []

@@ -1,13 +1,9 @@
--- What holds of every state that comes: the opening is sound, and each lawful command keeps it so.
+-- What holds of every state that comes: the opening is sound, and each lawful command that is given integers below 2 ^ 62 keeps it so.
 use Rattle.std.specs.Prelude.{◌≡◌, ◌≢◌, ℕ, ◌^◌, ◌<◌, ◌≤◌, true, false, List, [], ◌∷◌, length, nat_eq, None, Some, Option, is_some}
 use Rattle.std.specs.List.{AllPairs, IsDistinct}
 use Rattle.std.specs.Ordering.{nat_cmp}
 use Rattle.std.specs.Set.{is_member}
 use Rattle.std.specs.FinMap.{FinMap, get, empty}
-use Rattle.space_model.specs.declared.command.Command.{Command}
-use Rattle.space_model.specs.declared.command.Command.TheVariants.{Set, Push, Store}
-use Rattle.space_model.specs.declared.command.Input.{Input}
-use Rattle.space_model.specs.declared.command.Input.TheVariants.{From, Nil as NilInput, Small as SmallInput}
 use Rattle.space_model.specs.declared.phase.Phase.{Phase}
 use Rattle.space_model.specs.declared.phase.Phase.TheVariants.{Sweeping, Moving, Fixing}
 use Rattle.space_model.specs.declared.value.Value.{Value}
@@ -107,21 +103,3 @@ pub record Sound (s : State) : Type 0 where
   pub roots : AreSoundRoots s.roots
   pub ages : length s.collector.outlived ≡ length s.graph
   pub moments : SoundMoments s
-
--- each small integer that a command is given is below 2 ^ 62, as in every line of a trace
-abbrev pub IsSmallInput : Input → Type 0
-IsSmallInput (From operand) = Unit {0}
-IsSmallInput NilInput = Unit {0}
-IsSmallInput (SmallInput number) = number < 2 ^ 62
-
--- the same of each value that the command is given
-abbrev pub IsGivenSmall : Command → Type 0
-IsGivenSmall (Set root value) = IsSmallInput value
-IsGivenSmall (Push value) = IsSmallInput value
-IsGivenSmall (Store object index value) = IsSmallInput value
-IsGivenSmall _ = Unit {0}
-
--- the same of each command of the list
-abbrev pub AreGivenSmall : List Command → Type 0
-AreGivenSmall [] = Unit {0}
-AreGivenSmall (command ∷ commands) = IsGivenSmall command × AreGivenSmall commands

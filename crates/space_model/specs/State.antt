@@ -61,7 +61,7 @@ pub record History : Type 0 where
   -- the scans since
   pub scanned : ℕ
 
--- how many verdicts, freed objects, compactions and moves there were
+-- how many minor verdicts, major and full verdicts, freed objects, compactions and moves there were
 pub record Counters : Type 0 where
   pub minor_verdicts : ℕ
   pub other_verdicts : ℕ

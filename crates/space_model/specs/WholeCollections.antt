@@ -29,7 +29,7 @@ pub record IsCollection (s : State) (events : List Event) (scans : ℕ) (t : Sta
   pub events_are : events ≡ completion ++ verdict_events Full taken
   pub scans_are : scans ≡ length marked.history.seen
 
--- a whole collection, and every page is swept in the same command, until there is a command that sweeps pages
+-- a whole collection, and then every page is swept, in the same command: the trace has no command of its own for that yet
 pub record CollectsAll (s : State) (events : List Event) (scans : ℕ) (t : State) : Type 0 where
   pub unswept : State
   pub collects : IsCollection s events scans unswept

@@ -7,7 +7,7 @@ ghost use Rattle.space_roots.specs.WordRoots.{root_word};
 ghost use Rattle.space_engine.specs.Answered.{IsAnswered, IsCutOff};
 ghost use Rattle.space_collector.specs.Births.{IsBirth, LacksRoom, WantsPage};
 ghost use Rattle.space_collector.specs.Ticks.{RisesByFewer};
-ghost use Rattle.space_engine.specs.Births.{IsLastReply, IsRootedBirth};
+ghost use Rattle.space_engine.specs.Births.{IsLastReply, IsRootedBirth, WantsMemory};
 ghost use Rattle.space_engine.specs.Turns.{CanAnswer, GoesOn};
 ghost use Rattle.space_engine.specs.Views.{with_heap, with_root_dropped, with_root_reserved, with_root_written};
 
@@ -25,6 +25,7 @@ impl Engine {
         ensures there { OnOk result (IsSome (root_word self.new.roots root.now)) }
         ensures absent { IfOk result (λ added. IsTrue added → root_word self.old.roots root.now ≡ None) }
         ensures err { OnErr result (self.new ≡ self.old) }
+        ensures wanted { OnErr result (root_word self.old.roots root.now ≡ None) }
     {
         self.roots.reserve_for(*root)
     }
@@ -97,6 +98,7 @@ impl Engine {
         requires names { self.old.heap.counters.born < 2 ^ 62 }
         ensures born { IfOk result (λ made. IsRootedBirth self.old self.new root.now fields guard style made.name made.address) }
         ensures full { result ≡ Err Unborn.Full → LacksRoom self.old.heap (pool_of_fields fields) }
+        ensures no_memory { result ≡ Err Unborn.NoMemory → WantsMemory self.old root.now (pool_of_fields fields) }
         ensures failed { OnErr result (self.new ≡ self.old) }
     {
         let is_new = match self.reserve_root(root) {

@@ -4,7 +4,7 @@ ghost use Rattle.space_model.specs.declared.command.Command.TheVariants.{Store};
 ghost use Rattle.space_model.specs.Answers.{written_field, same_reply};
 ghost use Rattle.space_model.specs.Operands.{operand_value, input_value};
 ghost use Rattle.space_model.specs.Refusals.{both as both_results};
-ghost use Rattle.space_model.specs.Sound.{IsSmallInput};
+ghost use Rattle.space_model.specs.GivenIntegers.{IsSmallInput};
 ghost use Rattle.space_model.specs.State.{State};
 ghost use Rattle.space_heap.specs.Objects.{stands, object_of};
 ghost use Rattle.space_engine.specs.Stands.{Holds};

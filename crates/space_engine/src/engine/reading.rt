@@ -2,7 +2,7 @@
 ghost use Rattle.std.specs.Prelude.{◌≡◌, ◌<◌, ◌≤◌, ◌+◌, ◌^◌, true, length, IfOk};
 ghost use Rattle.space_model.specs.Answers.{field_value};
 ghost use Rattle.space_model.specs.Operands.{input_value, named_by, operand_value, word_value};
-ghost use Rattle.space_model.specs.Sound.{IsSmallInput};
+ghost use Rattle.space_model.specs.GivenIntegers.{IsSmallInput};
 ghost use Rattle.space_model.specs.State.{State};
 ghost use Rattle.space_heap.specs.Objects.{stands, object_of};
 ghost use Rattle.space_collector.specs.Ticks.{RisesByOneAtMost};

@@ -1,7 +1,7 @@
 // The commands that write roots.
 ghost use Rattle.std.specs.Prelude.{◌≡◌, ◌≤◌, ◌<◌, ◌+◌, ◌^◌, None, OnOk, OnErr, is_some};
 ghost use Rattle.space_model.specs.declared.command.Command.TheVariants.{Set, DropRoot, Load};
-ghost use Rattle.space_model.specs.Sound.{IsSmallInput};
+ghost use Rattle.space_model.specs.GivenIntegers.{IsSmallInput};
 ghost use Rattle.space_model.specs.State.{State};
 ghost use Rattle.space_roots.specs.WordRoots.{root_word};
 ghost use Rattle.space_collector.specs.Ticks.{RisesByOneAtMost};

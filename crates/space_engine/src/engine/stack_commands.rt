@@ -1,7 +1,7 @@
 // The commands that change the stack.
 ghost use Rattle.std.specs.Prelude.{◌≡◌, ◌++◌, ◌∷◌, [], IfSome, OnOk, OnErr, IfNone};
 ghost use Rattle.space_model.specs.declared.command.Command.TheVariants.{Push, Raw, Pop};
-ghost use Rattle.space_model.specs.Sound.{IsSmallInput};
+ghost use Rattle.space_model.specs.GivenIntegers.{IsSmallInput};
 ghost use Rattle.space_model.specs.State.{State};
 ghost use Rattle.space_engine.specs.Stands.{Holds};
 ghost use Rattle.space_engine.specs.Steps.{Answers};

@@ -1,13 +1,13 @@
-use Rattle.std.proofs.Common.{◌∙◌}
+use Rattle.std.proofs.Common.{◌∙◌, inl}
 use Rattle.space_engine.specs.Inside.{view_of}
-use Rattle.space_engine.proofs.Answering.{not_made}
+use Rattle.space_engine.proofs.BirthPlaces.{not_made}
 use Rattle.space_engine.proofs.LimitBirths.{answered_from, cut_from, goes_on_from, born_from_one}
 use Rattle.space_engine.proofs.Stepping.{answered_quietly}
 use Rattle.space_engine.proofs.Outcomes.{on_err}
 use Rattle.space_engine.proofs.engine.Engine.create_at_limit.Goals as goal
 
 pub returns-in-Err-clause-done : goal.returns-in-Err-clause-done
-returns-in-Err-clause-done g c = rw c.in-Err.ensures.err (answered_quietly c.args.self.now c.args.self.now _ _ _ (λ s h. not_made c.args.self.now s c.args.root.now c.args.fields c.args.guard c.args.style c.requires.few h))
+returns-in-Err-clause-done g c = rw c.in-Err.ensures.err (answered_quietly c.args.self.now c.args.self.now _ _ _ (λ s h. not_made c.args.self.now s c.args.root.now c.args.fields c.args.guard c.args.style c.requires.few (inl c.in-Err.ensures.wanted) h))
 
 pub returns-in_err-gone-clause-fault : goal.returns-in_err-gone-clause-fault
 returns-in_err-gone-clause-fault g c =
