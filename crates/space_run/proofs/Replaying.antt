@@ -1,6 +1,6 @@
 -- A replay goes on by one line, and how it ends.
 use Rattle.std.proofs.lemmas.Bool.Decides.{eqb_tells}
-use Rattle.std.proofs.Common.{◌≡◌, ◌≢◌, ◌⊎◌, ◌+◌, ◌≤◌, ◌<◌, ◌^◌, ℕ, List, [], ◌∷◌, ◌++◌, Option, Some, None, refl, ap, ◌∙◌, sym, subst, Result, Ok, Err, is_err, IfOk, OnErr, false, true, IsTrue, IsFalse, Bool, length, length-append, arith, inl, inr, ⊎_elim}
+use Rattle.std.proofs.Common.{◌≡◌, ◌≢◌, ◌⊎◌, ◌+◌, ◌≤◌, ◌<◌, ◌^◌, ℕ, List, [], ◌∷◌, ◌++◌, Option, Some, None, refl, ap, ◌∙◌, sym, subst, Result, Ok, Err, is_err, IfOk, OnOk, OnErr, false, true, IsTrue, IsFalse, Bool, length, length-append, arith, inl, inr, ⊎_elim}
 use mathlib.Core.List.{append_assoc}
 use Rattle.std.specs.List.{onto_first}
 use Rattle.std.proofs.lemmas.List.{append-nil}
@@ -11,15 +11,16 @@ use Rattle.space_io.specs.Next.{IsEnd}
 use Rattle.space_io.specs.Sinks.{AppendsPrefix}
 use Rattle.space_model.specs.declared.command.Command.{Command}
 use Rattle.space_model.specs.Grammar.{AreCommands, IsReading}
+use Rattle.space_model.specs.Lawful.{Lawful}
 use Rattle.space_model.specs.Lines.{lines_of, HasNoLf, StartsTooLong, MOST_BYTES}
-use Rattle.space_model.specs.State.{opening}
-use Rattle.space_model.specs.Texts.{text_of, line_of_pieces, malformed_pieces}
+use Rattle.space_model.specs.Outputs.{Output}
+use Rattle.space_model.specs.State.{State, opening}
+use Rattle.space_model.specs.Texts.{text_of, AreSpelled, line_of_pieces, malformed_pieces}
 use Rattle.space_model.proofs.RunLemmas.{LawfulAll-more, AreCommands-more, text_of-append, AreSpelled-append}
 use Rattle.space_run.specs.Progress.{HasReplayed}
-use Rattle.space_run.specs.Replays.{Replays, StopsAtLine, HasBadNext, IsCutOff, HasFailedRead, HasFailedWrite, HasReachedLimit, IsMalformed, IsWholeInput}
+use Rattle.space_run.specs.Replays.{AreAnswered, Replays, StopsAtLine, HasBadNext, IsCutOff, HasFailedRead, HasFailedWrite, HasReachedLimit, IsMalformed, IsWholeInput}
 use Rattle.space_engine.specs.declared.counts.Counts.{Counts}
 use Rattle.space_engine.specs.declared.space.StepFault.{StepFault}
-use Rattle.space_engine.specs.Counting.{counts_of}
 use Rattle.space_engine.specs.Stands.{Stands}
 use Rattle.space_engine.specs.Steps.{AreDone, Steps}
 use Rattle.space_engine.specs.Views.{SpaceView}
@@ -35,13 +36,9 @@ started r w limit view stands = record {
   numbered = refl;
   at_end = λ h. cc;
   counted = refl;
-  commands = [];
-  read = refl;
   outputs = [];
-  state = opening limit;
+  answered = record { commands = []; read = refl; state = opening limit; lawful = (refl, refl); spelled = tt };
   stands = stands;
-  lawful = (refl, refl);
-  spelled = tt;
   written = Appends-nil w;
 }
 
@@ -57,13 +54,9 @@ after_taking limit r0 r r' w0 w old mid view h takes = record {
   numbered = takes.number ∙ h.numbered;
   at_end = λ ended. takes.at_end h.at_end ended;
   counted = omega (arith, takes.taken, h.counted, length-append h.bytes takes.bytes);
-  commands = h.commands;
-  read = h.read;
   outputs = h.outputs;
-  state = h.state;
+  answered = h.answered;
   stands = h.stands;
-  lawful = h.lawful;
-  spelled = h.spelled;
   written = h.written;
 }
 
@@ -72,11 +65,27 @@ kept_promise : {T E : Type 0} {P : T → Type 0} (result : Result T E) → is_er
 kept_promise (Ok x) e h = (x, h)
 kept_promise (Err x) e h = cc
 
+-- and what a call that isn't an error leaves as it was
+pub kept_calm : {T E : Type 0} {P : Type 0} (result : Result T E) → is_err result ≡ false → OnOk result P → P
+kept_calm (Ok x) e h = h
+kept_calm (Err x) e h = cc
+
+-- one more line is answered
+abbrev one_more : (limit : ℕ) (lines : List (List ℕ)) (line : List ℕ) (outputs others : List Output) (state : State) (command : Command) (answered : AreAnswered limit lines outputs) → length line ≤ MOST_BYTES → IsReading line (Some command) →
+    Lawful answered.state command others state → AreSpelled others → AreAnswered limit (lines ++ line ∷ []) (outputs ++ others)
+one_more limit lines line outputs others state command answered short reading lawful spelled = record {
+  commands = answered.commands ++ command ∷ [];
+  read = AreCommands-more lines line answered.commands (Some command) answered.read short reading;
+  state = state;
+  lawful = LawfulAll-more (opening limit) answered.state state answered.commands command outputs others answered.lawful lawful;
+  spelled = AreSpelled-append outputs others answered.spelled spelled;
+}
+
 -- the next line was given, and its command answered
 pub after_line : (limit : ℕ) (r0 r w0 w w' : Option (List ℕ)) (mid new : Reading) (old_view view : SpaceView) (command : Command) (ticks ticked : ℕ) → HasReplayed limit r0 r w0 w mid old_view → Gives mid new →
     IsReading new.line (Some command) → (result : Result Counts StepFault) → is_err result ≡ false → IfOk result (λ counts. Steps old_view view command (AreDone command counts w w' ticks ticked)) → HasReplayed limit r0 r w0 w' new view
 after_line limit r0 r w0 w w' mid new old_view view command ticks ticked h gives reading result no_err steps =
-    let step = (kept_promise result no_err steps).1 h.state h.stands in
+    let step = (kept_promise result no_err steps).1 h.answered.state h.stands in
     record {
       bytes = h.bytes;
       taken = h.taken;
@@ -86,13 +95,9 @@ after_line limit r0 r w0 w w' mid new old_view view command ticks ticked h gives
       numbered = omega (arith, gives.number, h.numbered, length-append h.lines (new.line ∷ []));
       at_end = λ ended. h.at_end (rw gives.ended at ended);
       counted = gives.taken ∙ h.counted;
-      commands = h.commands ++ command ∷ [];
-      read = AreCommands-more h.lines new.line h.commands (Some command) h.read gives.short reading;
       outputs = h.outputs ++ step.outputs;
-      state = step.state;
+      answered = one_more limit h.lines new.line h.outputs step.outputs step.state command h.answered gives.short reading step.lawful step.spelled;
       stands = step.stands;
-      lawful = LawfulAll-more (opening limit) h.state step.state h.commands command h.outputs step.outputs h.lawful step.lawful;
-      spelled = AreSpelled-append h.outputs step.outputs h.spelled step.spelled;
       written = rw text_of-append (Appends-trans w0 w w' _ _ h.written step.so.written);
     }
 
@@ -108,13 +113,15 @@ after_blank limit r0 r w0 w mid new view h gives reading = record {
   numbered = omega (arith, gives.number, h.numbered, length-append h.lines (new.line ∷ []));
   at_end = λ ended. h.at_end (rw gives.ended at ended);
   counted = gives.taken ∙ h.counted;
-  commands = h.commands;
-  read = let more = AreCommands-more h.lines new.line h.commands None h.read gives.short reading in rw append-nil at more;
   outputs = h.outputs;
-  state = h.state;
+  answered = record {
+    commands = h.answered.commands;
+    read = let more = AreCommands-more h.lines new.line h.answered.commands None h.answered.read gives.short reading in rw append-nil at more;
+    state = h.answered.state;
+    lawful = h.answered.lawful;
+    spelled = h.answered.spelled;
+  };
   stands = h.stands;
-  lawful = h.lawful;
-  spelled = h.spelled;
   written = h.written;
 }
 
@@ -128,12 +135,8 @@ at_the_end limit r0 r w0 w mid new view h end =
       taken = h.taken;
       few = rw h.counted at end.asked;
       at_end = h.at_end end.ended;
-      commands = h.commands;
-      read = rw all h.read;
       outputs = h.outputs;
-      state = h.state;
-      lawful = h.lawful;
-      spelled = h.spelled;
+      answered = subst (λ lines. AreAnswered limit lines h.outputs) (sym all) h.answered;
       written = h.written;
     }
 
@@ -150,33 +153,26 @@ stopped limit r0 r w0 w w' mid view number h few e next written =
       at_end = h.at_end;
       lines = h.lines;
       next = next;
-      commands = h.commands;
-      read = h.read;
       outputs = h.outputs;
-      state = h.state;
-      lawful = h.lawful;
-      spelled = h.spelled;
+      answered = h.answered;
       written = Appends-trans w0 w w' (text_of h.outputs) (line_of_pieces (malformed_pieces (length h.lines + 1))) h.written (subst (λ n. Appends w w' (line_of_pieces (malformed_pieces n))) place written);
     }
 
 -- the same, and a front of it was written
-pub stopped_early : (limit : ℕ) (r0 r w0 w w' : Option (List ℕ)) (mid : Reading) (view : SpaceView) (number : ℕ) → (h : HasReplayed limit r0 r w0 w mid view) → number ≡ mid.number + 1 →
+pub stopped_early : (limit : ℕ) (r0 r w0 w w' : Option (List ℕ)) (mid : Reading) (view : SpaceView) (number : ℕ) → (h : HasReplayed limit r0 r w0 w mid view) → mid.taken ≤ 2 ^ 32 → number ≡ mid.number + 1 →
     ((more : List ℕ) → (IsTrue mid.ended → more ≡ []) → HasBadNext (h.bytes ++ more) h.lines) → AppendsPrefix w w' (line_of_pieces (malformed_pieces number)) → HasFailedWrite limit r0 r w0 w'
-stopped_early limit r0 r w0 w w' mid view number h e next front =
+stopped_early limit r0 r w0 w w' mid view number h few e next front =
     let place : number ≡ length h.lines + 1 = e ∙ ap (λ n. n + 1) h.numbered in
     record {
       bytes = h.bytes;
       taken = h.taken;
+      few = rw h.counted at few;
       ended = mid.ended;
       at_end = h.at_end;
       lines = h.lines;
       cut = λ more ended. (lines_of (mid.pending ++ more), h.cut more ended);
-      commands = h.commands;
-      read = h.read;
       outputs = h.outputs;
-      state = h.state;
-      lawful = h.lawful;
-      spelled = h.spelled;
+      answered = h.answered;
       ending = line_of_pieces (malformed_pieces (length h.lines + 1));
       ending_is = inr (refl, next);
       front = prefix_after w0 w w' (text_of h.outputs) (line_of_pieces (malformed_pieces (length h.lines + 1))) h.written (subst (λ n. AppendsPrefix w w' (line_of_pieces (malformed_pieces n))) place front);
@@ -188,13 +184,14 @@ failed_promise (Ok x) e h = cc
 failed_promise (Err x) e h = h
 
 -- the next line was given, and a front of its outputs was written
-pub failed_line : (limit : ℕ) (r0 r w0 w w' : Option (List ℕ)) (mid new : Reading) (old_view view : SpaceView) (command : Command) → HasReplayed limit r0 r w0 w mid old_view → Gives mid new →
+pub failed_line : (limit : ℕ) (r0 r w0 w w' : Option (List ℕ)) (mid new : Reading) (old_view view : SpaceView) (command : Command) → HasReplayed limit r0 r w0 w mid old_view → mid.taken ≤ 2 ^ 32 → Gives mid new →
     IsReading new.line (Some command) → (result : Result Counts StepFault) → is_err result ≡ true → OnErr result (Steps old_view view command (λ outputs. AppendsPrefix w w' (text_of outputs))) → HasFailedWrite limit r0 r w0 w'
-failed_line limit r0 r w0 w w' mid new old_view view command h gives reading result err steps =
-    let step = failed_promise result err steps h.state h.stands in
+failed_line limit r0 r w0 w w' mid new old_view view command h few gives reading result err steps =
+    let step = failed_promise result err steps h.answered.state h.stands in
     record {
       bytes = h.bytes;
       taken = h.taken;
+      few = rw h.counted at few;
       ended = new.ended;
       at_end = λ ended. h.at_end (rw gives.ended at ended);
       lines = h.lines ++ new.line ∷ [];
@@ -202,12 +199,8 @@ failed_line limit r0 r w0 w w' mid new old_view view command h gives reading res
         lines_of (new.pending ++ more),
         h.cut more (λ told. ended (rw gives.ended told)) ∙ ap (λ xs. h.lines ++ xs) (gives.next more ended) ∙ sym (append_assoc h.lines (new.line ∷ []) (lines_of (new.pending ++ more))),
       );
-      commands = h.commands ++ command ∷ [];
-      read = AreCommands-more h.lines new.line h.commands (Some command) h.read gives.short reading;
       outputs = h.outputs ++ step.outputs;
-      state = step.state;
-      lawful = LawfulAll-more (opening limit) h.state step.state h.commands command h.outputs step.outputs h.lawful step.lawful;
-      spelled = AreSpelled-append h.outputs step.outputs h.spelled step.spelled;
+      answered = one_more limit h.lines new.line h.outputs step.outputs step.state command h.answered gives.short reading step.lawful step.spelled;
       ending = [];
       ending_is = inl refl;
       front = rw (append-nil, text_of-append) (prefix_after w0 w w' (text_of h.outputs) (text_of step.outputs) h.written step.so);
@@ -279,12 +272,8 @@ cut_off limit r0 r w0 w mid view h unfinished = record {
   cut = λ more. h.cut more (λ told. absurd (never_both mid.ended unfinished.not_ended told));
   no_lf = unfinished.no_lf;
   short = unfinished.short;
-  commands = h.commands;
-  read = h.read;
   outputs = h.outputs;
-  state = h.state;
-  lawful = h.lawful;
-  spelled = h.spelled;
+  answered = h.answered;
   written = h.written;
 }
 

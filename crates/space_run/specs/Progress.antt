@@ -2,18 +2,14 @@
 use Rattle.std.specs.Prelude.{◌≡◌, ℕ, List, [], ◌++◌, length, Option, IsTrue}
 use Rattle.std.specs.Io.KnownBytes.{Appends, Consumes, IsAtEnd}
 use Rattle.space_io.specs.Reading.{Reading}
-use Rattle.space_model.specs.declared.command.Command.{Command}
-use Rattle.space_model.specs.Grammar.{AreCommands}
-use Rattle.space_model.specs.Lawful.{LawfulAll}
 use Rattle.space_model.specs.Lines.{lines_of}
 use Rattle.space_model.specs.Outputs.{Output}
-use Rattle.space_model.specs.State.{State, opening}
-use Rattle.space_model.specs.Texts.{text_of, AreSpelled}
+use Rattle.space_model.specs.Texts.{text_of}
 use Rattle.space_engine.specs.Stands.{Stands}
 use Rattle.space_engine.specs.Views.{SpaceView}
+use Rattle.space_run.specs.Replays.{AreAnswered}
 
--- The lines given so far are commands, each was answered by lawful outputs, these were written, and the space stands for the
--- state after them.
+-- each line given so far is answered, the answers were written, and the space stands for the state after them
 pub record HasReplayed (limit : ℕ) (rest_before rest_after written_before written_after : Option (List ℕ)) (reading : Reading) (view : SpaceView) : Type 0 where
   pub bytes : List ℕ
   pub taken : Consumes rest_before rest_after bytes
@@ -23,11 +19,7 @@ pub record HasReplayed (limit : ℕ) (rest_before rest_after written_before writ
   pub numbered : reading.number ≡ length lines
   pub at_end : IsTrue reading.ended → IsAtEnd rest_after
   pub counted : reading.taken ≡ length bytes
-  pub commands : List Command
-  pub read : AreCommands lines commands
   pub outputs : List Output
-  pub state : State
-  pub stands : Stands view state
-  pub lawful : LawfulAll (opening limit) commands outputs state
-  pub spelled : AreSpelled outputs
+  pub answered : AreAnswered limit lines outputs
+  pub stands : Stands view answered.state
   pub written : Appends written_before written_after (text_of outputs)

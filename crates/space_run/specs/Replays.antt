@@ -23,20 +23,24 @@ IsReplayText texts limit =
 abbrev pub IsReplay : List (String Global) → ℕ → Type 0
 IsReplay words limit = IsReplayText (map string_bytes words) limit
 
--- The source was read to its end, before as many bytes were taken as may be. The bytes taken are commands, and the bytes
--- written are the text of outputs that are lawful for exactly these commands, from the opening on.
+-- each of the lines is a command or blank, and the outputs are lawful for exactly these commands, from the opening on
+pub record AreAnswered (limit : ℕ) (lines : List (List ℕ)) (outputs : List Output) : Type 0 where
+  pub commands : List Command
+  pub read : AreCommands lines commands
+  pub state : State
+  pub lawful : LawfulAll (opening limit) commands outputs state
+  -- so the text of the outputs is that of these and no others
+  pub spelled : AreSpelled outputs
+
+-- The source was read to its end, before as many bytes were taken as may be. Each line of these bytes is answered, and the bytes
+-- written are the text of the answers.
 pub record Replays (limit : ℕ) (rest_before rest_after written_before written_after : Option (List ℕ)) : Type 0 where
   pub bytes : List ℕ
   pub taken : Consumes rest_before rest_after bytes
   pub few : length bytes < 2 ^ 32
   pub at_end : IsAtEnd rest_after
-  pub commands : List Command
-  pub read : Commands bytes commands
   pub outputs : List Output
-  pub state : State
-  pub lawful : LawfulAll (opening limit) commands outputs state
-  -- so the bytes name these outputs and no others
-  pub spelled : AreSpelled outputs
+  pub answered : AreAnswered limit (lines_of bytes) outputs
   pub written : Appends written_before written_after (text_of outputs)
 
 -- the line is in no form
@@ -60,16 +64,11 @@ pub record StopsAtLine (limit : ℕ) (rest_before rest_after written_before writ
   pub at_end : IsTrue ended → IsAtEnd rest_after
   pub lines : List (List ℕ)
   pub next : (more : List ℕ) → (IsTrue ended → more ≡ []) → HasBadNext (bytes ++ more) lines
-  pub commands : List Command
-  pub read : AreCommands lines commands
   pub outputs : List Output
-  pub state : State
-  pub lawful : LawfulAll (opening limit) commands outputs state
-  pub spelled : AreSpelled outputs
+  pub answered : AreAnswered limit lines outputs
   pub written : Appends written_before written_after (text_of outputs ++ line_of_pieces (malformed_pieces (length lines + 1)))
 
--- The end wasn't reached. The bytes taken are whole lines, each of which is answered, and then the start of a line that
--- may still be well formed.
+-- the bytes taken are whole lines, each of which is answered, and then the start of a line, without an LF and not too long
 pub record IsCutOff (limit : ℕ) (rest_before rest_after written_before written_after : Option (List ℕ)) (bytes : List ℕ) : Type 0 where
   pub taken : Consumes rest_before rest_after bytes
   pub lines : List (List ℕ)
@@ -77,12 +76,8 @@ pub record IsCutOff (limit : ℕ) (rest_before rest_after written_before written
   pub cut : (more : List ℕ) → lines_of (bytes ++ more) ≡ lines ++ lines_of (begun ++ more)
   pub no_lf : HasNoLf begun
   pub short : length begun ≤ MOST_BYTES
-  pub commands : List Command
-  pub read : AreCommands lines commands
   pub outputs : List Output
-  pub state : State
-  pub lawful : LawfulAll (opening limit) commands outputs state
-  pub spelled : AreSpelled outputs
+  pub answered : AreAnswered limit lines outputs
   pub written : Appends written_before written_after (text_of outputs)
 
 -- a read failed before as many bytes were taken as may be
@@ -91,7 +86,7 @@ pub record HasFailedRead (limit : ℕ) (rest_before rest_after written_before wr
   pub few : length bytes < 2 ^ 32
   pub cut_off : IsCutOff limit rest_before rest_after written_before written_after bytes
 
--- as many bytes were taken as may be, without an end
+-- as many bytes were taken as may be
 pub record HasReachedLimit (limit : ℕ) (rest_before rest_after written_before written_after : Option (List ℕ)) : Type 0 where
   pub bytes : List ℕ
   pub many : length bytes ≡ 2 ^ 32
@@ -103,21 +98,17 @@ IsEnding bytes lines ended ending =
     (ending ≡ [])
     ⊎ ((ending ≡ line_of_pieces (malformed_pieces (length lines + 1))) × ((more : List ℕ) → (IsTrue ended → more ≡ []) → HasBadNext (bytes ++ more) lines))
 
--- A write failed. The first lines of the bytes taken are commands, and a front was written of the text of outputs that are lawful
--- for exactly these, and of the ending.
+-- A write failed. The first lines of the bytes taken are answered, and a front was written of the text of the answers and of the ending.
 pub record HasFailedWrite (limit : ℕ) (rest_before rest_after written_before written_after : Option (List ℕ)) : Type 0 where
   pub bytes : List ℕ
   pub taken : Consumes rest_before rest_after bytes
+  pub few : length bytes ≤ 2 ^ 32
   pub ended : Bool
   pub at_end : IsTrue ended → IsAtEnd rest_after
   pub lines : List (List ℕ)
   pub cut : (more : List ℕ) → (IsTrue ended → more ≡ []) → (others : List (List ℕ)) × (lines_of (bytes ++ more) ≡ lines ++ others)
-  pub commands : List Command
-  pub read : AreCommands lines commands
   pub outputs : List Output
-  pub state : State
-  pub lawful : LawfulAll (opening limit) commands outputs state
-  pub spelled : AreSpelled outputs
+  pub answered : AreAnswered limit lines outputs
   pub ending : List ℕ
   pub ending_is : IsEnding bytes lines ended ending
   pub front : AppendsPrefix written_before written_after (text_of outputs ++ ending)
@@ -130,7 +121,7 @@ pub record IsWholeInput (rest_before : Option (List ℕ)) : Type 0 where
   pub read : Commands bytes commands
   pub few : length bytes < 2 ^ 32
 
--- neither count of faults rose
+-- neither count of faults rose, or stands at its last value
 pub record IsCalm (source_before source_after sink_before sink_after : ℕ) : Type 0 where
   pub source : Rose source_before source_after → ⊥
   pub sink : Rose sink_before sink_after → ⊥

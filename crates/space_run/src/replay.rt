@@ -30,6 +30,7 @@ fn stop_at<K: Sink>(number: u64, sink: &mut K) -> u8
     ensures written { result ≡ 3 → Appends (K.written sink.old) (K.written sink.new) (line_of_pieces (malformed_pieces number)) }
     ensures front { AppendsPrefix (K.written sink.old) (K.written sink.new) (line_of_pieces (malformed_pieces number)) }
     ensures fault { result ≡ 5 → Rose (K.faults sink.old) (K.faults sink.new) }
+    ensures heeded { result ≢ 5 → K.faults sink.new ≡ K.faults sink.old }
     ensures counted { K.faults sink.old ≤ K.faults sink.new }
 {
     match write_malformed(number, sink) {
@@ -58,6 +59,8 @@ fn replay<S: Source, K: Sink>(
     ensures write_fault { result ≡ 5 → Rose (K.faults sink.old) (K.faults sink.new) }
     ensures front { result ≡ 5 → HasFailedWrite space.parts.heap.limit (S.rest source.old) (S.rest source.new) (K.written sink.old) (K.written sink.new) }
     ensures limit { result ≡ 6 → HasReachedLimit space.parts.heap.limit (S.rest source.old) (S.rest source.new) (K.written sink.old) (K.written sink.new) }
+    ensures reads_heeded { result ≢ 4 → S.faults source.new ≡ S.faults source.old }
+    ensures writes_heeded { result ≢ 5 → K.faults sink.new ≡ K.faults sink.old }
     ensures reads_counted { S.faults source.old ≤ S.faults source.new }
     ensures writes_counted { K.faults sink.old ≤ K.faults sink.new }
 {
@@ -130,8 +133,8 @@ fn page_limit(words: &Vec<String>) -> Option<u32>
 /// |---|---|
 /// | 0 | the input was read to its end, and each command was answered |
 /// | 1 | memory was lacking before anything was read or written |
-/// | 2 | the words are no command; nothing is read or written |
-/// | 3 | a line is malformed or too long; those before it are answered |
+/// | 2 | the words aren't those of a replay; nothing is read or written |
+/// | 3 | a line is malformed or longer than 4,096 bytes; those before it are answered, and `line L: malformed` is written last |
 /// | 4 | a read failed; each whole line that came before is answered |
 /// | 5 | a write failed; a front of the answers was written, with the line that tells of a malformed one where it was due |
 /// | 6 | 2^32 bytes were taken without an end; each whole line of them is answered |
@@ -161,11 +164,14 @@ pub fn run<S: Source, K: Sink>(
     ensures limit { (limit : ℕ) → IsReplay words.now.items limit → result ≡ 6 → HasReachedLimit limit (S.rest source.old) (S.rest source.new) (K.written sink.old) (K.written sink.new) }
     ensures status { result ≤ 6 }
 
-    // The counts of faults never fall.
+    // A failed call ends the replay: it isn't tried again, and the counts of faults never fall.
+    ensures reads_heeded { result ≢ 4 → S.faults source.new ≡ S.faults source.old }
+    ensures writes_heeded { result ≢ 5 → K.faults sink.new ≡ K.faults sink.old }
     ensures reads_counted { S.faults source.old ≤ S.faults source.new }
     ensures writes_counted { K.faults sink.old ≤ K.faults sink.new }
 
-    // A lawful input, without faults, is replayed to its end, where there is memory to begin with.
+    // An input of fewer than 2^32 bytes, each line of which is a command or blank, is replayed to its end where no call fails and
+    // there is memory to begin with.
     ensures complete { (limit : ℕ) → IsReplay words.now.items limit → IsWholeInput (S.rest source.old) → IsCalm (S.faults source.old) (S.faults source.new) (K.faults sink.old) (K.faults sink.new) → (result ≡ 0) ⊎ (result ≡ 1) }
 {
     let Some(limit) = page_limit(words) else {

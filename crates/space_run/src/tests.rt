@@ -1,6 +1,6 @@
 // `run` on traces in memory, with the answers that its definitions give, written out by hand.
 use crate::run;
-use space_io::{MemorySink, MemorySource};
+use space_io::{MemorySink, MemorySource, Source};
 use std::alloc::Global;
 use std::test::Fail;
 
@@ -151,6 +151,28 @@ fn faults_end_a_replay(rt: HostRuntime) -> Result<(), Fail> {
     )?;
     assert_eq!(rt; status, 5);
     assert!(rt; text.is_empty());
+    Ok(())
+}
+
+#[test]
+fn no_more_is_read_than_is_needed(rt: HostRuntime) -> Result<(), Fail> {
+    let alloc = rt.alloc();
+    let words = words_of(alloc, &["replay"])?;
+    let trace: &[u8] = b"new a 0 P M\nnew b 0 P M\nnew c 0 P X\nnew d 0 P M\n";
+    // Each read gives one line, and each answer is one write. The write that fails, the status, and the first line that is left.
+    let cases: [(u64, u8, &[u8]); 3] = [
+        (1, 5, b"new b 0 P M\n"),
+        (2, 5, b"new c 0 P X\n"),
+        (9, 3, b"new d 0 P M\n"),
+    ];
+    for (failing, wanted, left) in cases {
+        let mut source = MemorySource::new(trace.to_vec(alloc)?, 12, Vec::new(alloc));
+        let mut sink = MemorySink::new(alloc, 1_000, 100, [failing].to_vec(alloc)?)?;
+        assert_eq!(rt; run(alloc, &words, &mut source, &mut sink), wanted);
+        let mut next = [0u8; 12];
+        assert!(rt; source.read(&mut next) == Ok(12));
+        assert!(rt; next.as_slice() == left);
+    }
     Ok(())
 }
 

@@ -1,4 +1,4 @@
-use Rattle.std.proofs.Common.{arith}
+use Rattle.std.proofs.Common.{refl, ◌∙◌, arith}
 use Rattle.space_collector.proofs.GoneLists.{next_gone_small}
 use Rattle.space_collector.proofs.ToldLines.{told_none, goes_on, stops, ends, ends_early}
 use Rattle.space_collector.proofs.telling.tell_verdict.Goals as goal
@@ -6,7 +6,7 @@ use Rattle.space_collector.proofs.telling.tell_verdict.Goals as goal
 pub told-init : goal.told-init
 told-init g c = record {
   written = told_none c.args.heap.now (g.K.Sink.written c.args.sink.now);
-  counted = omega arith;
+  calm = refl;
   within = omega arith;
 }
 
@@ -20,7 +20,7 @@ told-preserved g c =
     let small = next_gone_small c.args.heap.now c.told.from c.in-Some.dead.address c.page_count.ensures.sound c.in-Some.ensures.0 in
     record {
       written = goes_on c.args.heap.now c.args.kind _ _ _ c.told.from c.told.invariant.written c.in-Some.dead.address c.in-Some.dead.name c.in-Some.ensures.0 c.in-Some.ensures.1 c.in_ok-write_event.ensures.bytes;
-      counted = omega (arith, c.told.invariant.counted, c.write_event.ensures.cause.later);
+      calm = c.in_ok-write_event.ensures.cause.calm ∙ c.told.invariant.calm;
       within = omega arith;
     }
 

@@ -1,4 +1,4 @@
-use Rattle.std.proofs.Common.{◌-◌, ◌^◌, ◌≤◌}
+use Rattle.std.proofs.Common.{◌≡◌, ◌-◌, ◌^◌, ◌≤◌}
 use Rattle.std.specs.Io.KnownBytes.{Appends}
 use Rattle.space_collector.proofs.ToldLines.{told}
 use Rattle.space_collector.proofs.telling.tell_verdict.Given as goal
@@ -6,7 +6,7 @@ use Rattle.space_collector.proofs.telling.tell_verdict.Given as goal
 abbrev pub invariant-told : goal.invariant-told
 invariant-told g l = record {
   written : Appends (g.K.Sink.written l.fn.sink) (g.K.Sink.written l.sink) (told l.heap l.from);
-  counted : g.K.Sink.faults l.fn.sink ≤ g.K.Sink.faults l.sink;
+  calm : g.K.Sink.faults l.sink ≡ g.K.Sink.faults l.fn.sink;
   within : l.from ≤ 2 ^ 29;
 }
 

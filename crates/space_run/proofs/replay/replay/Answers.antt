@@ -1,5 +1,5 @@
-use Rattle.std.proofs.Common.{arith, rules, sym, ap, ◌∙◌, ◌+◌}
-use Rattle.space_run.proofs.Replaying.{started, after_taking, after_line, after_blank, at_the_end, stopped, stopped_early, failed_line, malformed_line, long_line, read_failed, limit_reached}
+use Rattle.std.proofs.Common.{arith, rules, refl, sym, ap, ◌∙◌, ◌+◌}
+use Rattle.space_run.proofs.Replaying.{kept_calm, started, after_taking, after_line, after_blank, at_the_end, stopped, stopped_early, failed_line, malformed_line, long_line, read_failed, limit_reached}
 use Rattle.space_run.proofs.replay.replay.Goals as goal
 
 pub each_line-init : goal.each_line-init
@@ -10,8 +10,8 @@ each_line-init g c = rw c.requires.lines (record {
   able = c.requires.able;
   turns = omega (arith, c.requires.turns);
   steps = omega (arith, c.start-steps.ensures);
-  read_faults = search rules;
-  write_faults = search rules;
+  read_calm = refl;
+  write_calm = refl;
 })
 
 pub returns-in-Ok-None-clause-done : goal.returns-in-Ok-None-clause-done
@@ -68,8 +68,8 @@ each_line-preserved-in_default-found g c =
       able = c.each_line.invariant.able;
       turns = omega (arith, c.each_line.invariant.turns, next.takes.number, line.gives.number);
       steps = omega (arith, c.each_line.invariant.steps, next.takes.number, line.gives.number);
-      read_faults = omega (arith, c.each_line.invariant.read_faults, c.next.ensures.counted);
-      write_faults = c.each_line.invariant.write_faults;
+      read_calm = rw c.in-Ok-Some.is at c.next.ensures.calm ∙ c.each_line.invariant.read_calm;
+      write_calm = c.each_line.invariant.write_calm;
     }
 
 pub each_line-preserved : goal.each_line-preserved
@@ -86,8 +86,8 @@ each_line-preserved g c =
       able = c.step.ensures.spent ∙ no_err;
       turns = omega (arith, c.each_line.invariant.turns, next.takes.number, line.gives.number, c.step.ensures.turns);
       steps = omega (arith, c.each_line.invariant.steps, next.takes.number, line.gives.number, c.step.ensures.steps.1);
-      read_faults = omega (arith, c.each_line.invariant.read_faults, c.next.ensures.counted);
-      write_faults = omega (arith, c.each_line.invariant.write_faults, c.step.ensures.cause.later);
+      read_calm = rw c.in-Ok-Some.is at c.next.ensures.calm ∙ c.each_line.invariant.read_calm;
+      write_calm = kept_calm c.step.result no_err c.step.ensures.cause.calm ∙ c.each_line.invariant.write_calm;
     }
 
 pub returns-in_default-clause-front : goal.returns-in_default-clause-front
@@ -96,7 +96,7 @@ returns-in_default-clause-front g c =
     let found = rw c.in-Ok-Some.is at next.line in
     let line = rw c.in-Ok-Some.field-0-is at found in
     let done = after_taking c.args.space.parts.heap.limit _ _ _ _ _ _ _ _ c.each_line.invariant.done next.takes in
-    λ _. stopped_early c.args.space.parts.heap.limit _ _ _ _ _ next.mid _ c.in-Ok-Some.line.number done (line.number ∙ line.gives.number)
+    λ _. stopped_early c.args.space.parts.heap.limit _ _ _ _ _ next.mid _ c.in-Ok-Some.line.number done (rw line.gives.taken at next.most) (line.number ∙ line.gives.number)
     (malformed_line c.args.space.parts.heap.limit _ _ _ _ next.mid _ _ done line.gives (rw line.bytes at c.in_default.ensures.malformed))
     c.stop_at-in_default.ensures.front
 
@@ -106,7 +106,7 @@ returns-in-Err-TooLong-clause-front g c =
     let fault = rw c.in-Err-TooLong.is at next.fault in
     let long = rw c.in-Err-TooLong.field-0-is at fault.0 in
     let done = after_taking c.args.space.parts.heap.limit _ _ _ _ _ _ _ _ c.each_line.invariant.done next.takes in
-    λ _. stopped_early c.args.space.parts.heap.limit _ _ _ _ _ next.mid _ (c.each_line.number + 1) done (ap (λ n. n + 1) (c.each_line.invariant.numbered ∙ sym next.takes.number))
+    λ _. stopped_early c.args.space.parts.heap.limit _ _ _ _ _ next.mid _ (c.each_line.number + 1) done (rw fault.1 at next.most) (ap (λ n. n + 1) (c.each_line.invariant.numbered ∙ sym next.takes.number))
     (long_line c.args.space.parts.heap.limit _ _ _ _ next.mid _ done long)
     c.stop_at.ensures.front
 
@@ -117,4 +117,4 @@ returns-then-is_err-clause-front g c =
     let line = rw c.in-Ok-Some.field-0-is at found in
     let reading = rw c.in-Some.is at c.in-Ok.ensures.found in
     let err = sym c.is_err.ensures.value ∙ c.if-is_err.true in
-    λ _. failed_line c.args.space.parts.heap.limit _ _ _ _ _ next.mid _ _ _ c.in-Some.command (after_taking c.args.space.parts.heap.limit _ _ _ _ _ _ _ _ c.each_line.invariant.done next.takes) line.gives (rw line.bytes at reading) c.step.result err c.step.ensures.fault
+    λ _. failed_line c.args.space.parts.heap.limit _ _ _ _ _ next.mid _ _ _ c.in-Some.command (after_taking c.args.space.parts.heap.limit _ _ _ _ _ _ _ _ c.each_line.invariant.done next.takes) (rw line.gives.taken at next.most) line.gives (rw line.bytes at reading) c.step.result err c.step.ensures.fault

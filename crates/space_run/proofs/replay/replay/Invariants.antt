@@ -10,8 +10,8 @@ invariant-each_line g l = record {
   able : l.space.is_spent ≡ false;
   turns : l.space.turns ≤ l.lines.number;
   steps : l.steps ≤ 2 ^ 26 * l.lines.number;
-  read_faults : g.S.Source.faults l.fn.source ≤ g.S.Source.faults l.source;
-  write_faults : g.K.Sink.faults l.fn.sink ≤ g.K.Sink.faults l.sink;
+  read_calm : g.S.Source.faults l.source ≡ g.S.Source.faults l.fn.source;
+  write_calm : g.K.Sink.faults l.sink ≡ g.K.Sink.faults l.fn.sink;
 }
 
 abbrev pub decreases-each_line : goal.decreases-each_line
