@@ -17,15 +17,15 @@ pub record GetsPage (v w : HeapView) (pool page : ℕ) : Type 0 where
   pub swept : is_unswept v page ≡ false
   pub becomes : w ≡ with_page v page pool
 
--- the heap is as it was, or the pool got a page since no address was free for it
-abbrev pub HasRoom : HeapView → HeapView → ℕ → Type 0
-HasRoom v w pool = (w ≡ v) ⊎ ((page : ℕ) × GetsPage v w pool page)
+-- w is the heap as it was, or after the pool got a page since no address was free for it
+abbrev pub MakesRoom : HeapView → HeapView → ℕ → Type 0
+MakesRoom v w pool = (w ≡ v) ⊎ ((page : ℕ) × GetsPage v w pool page)
 
 -- no address is free for the pool, and it can't get a page
 abbrev pub LacksRoom : HeapView → ℕ → Type 0
 LacksRoom v pool = HasNoFree v pool × IsAtLimit v
 
--- no address is free for the pool, no page is spare, and there are fewer pages than may be: a new page takes memory
+-- no address is free for the pool, no page is spare, and there aren't as many pages as may be: a new page takes memory
 pub record WantsPage (v : HeapView) (pool : ℕ) : Type 0 where
   pub none_free : HasNoFree v pool
   pub none_spare : HasNoSpare v
@@ -35,7 +35,7 @@ pub record WantsPage (v : HeapView) (pool : ℕ) : Type 0 where
 pub record IsBirth (v w : HeapView) (fields : ℕ) (guard : Guard) (style : Style) (name address : ℕ) : Type 0 where
   -- the heap in which the address is free
   pub roomy : HeapView
-  pub room : HasRoom v roomy (pool_for fields)
+  pub room : MakesRoom v roomy (pool_for fields)
   pub least : IsLeastFree roomy (pool_for fields) address
   pub named : name ≡ v.counters.born + 1
   pub becomes : w ≡ placed roomy address (new_object name fields guard style)

@@ -4,7 +4,3 @@ use Rattle.std.specs.Prelude.{ℕ, ◌+◌, ◌^◌, ◌≤◌, ◌<◌}
 -- the count rises by fewer than 2 ^ 26, which is more than a heap has slots, or stays
 abbrev pub RisesByFewer : ℕ → ℕ → Type 0
 RisesByFewer before after = (before ≤ after) × (after < before + 2 ^ 26)
-
--- the count rises by one, or stays
-abbrev pub RisesByOneAtMost : ℕ → ℕ → Type 0
-RisesByOneAtMost before after = (before ≤ after) × (after ≤ before + 1)

@@ -50,7 +50,7 @@ fn bear_on_page(heap: &mut Heap, fields: u64, guard: Guard, style: Style) -> Res
 }
 
 /// Gives birth to an object at the lowest free address of its pool, or on a page that the pool gets where no address is
-/// free. An `Err` changes nothing.
+/// free. An `Err` changes nothing. That the lowest address is taken is this project's own.
 pub fn bear(heap: &mut Heap, fields: u64, guard: Guard, style: Style) -> Result<Made, Unborn>
     requires few { fields ≤ MOST_FIELDS }
     requires names { heap.old.counters.born < 2 ^ 62 }

@@ -25,7 +25,7 @@ pub struct Collected {
 }
 
 /// Marks what roots and the stack lead to, writes the lines of a full verdict, and sweeps every page, also after a failed
-/// write.
+/// write. That it sweeps every page at once is this project's own.
 pub fn collect<K: Sink, L: Ledger>(
     heap: &mut Heap,
     roots: &Roots,

@@ -5,7 +5,6 @@ use Rattle.std.proofs.KnownBytes.{Appends-nil, Appends-trans}
 use Rattle.space_io.specs.Sinks.{AppendsPrefix}
 use Rattle.std.proofs.lemmas.List.{append-nil}
 use Rattle.space_model.specs.declared.command.Command.{Command}
-use Rattle.space_model.specs.declared.command.Command.TheVariants.{Gc}
 use Rattle.space_model.specs.declared.event.Event.{Event}
 use Rattle.space_model.specs.declared.reply.Reply.{Reply}
 use Rattle.space_model.specs.declared.reply.Reply.TheVariants.{Made, Full, NoMemory, Done, Pushed, Read, Truth, Scanned, Refused}
@@ -113,17 +112,17 @@ module _ (events : List Event) (reply : Reply) where
       }
 
 -- events tell nothing of the ledger
-outputs_ticked : (events : List Event) (reply : Reply) (before after : ℕ) → IsTicked reply before after → AreTicked (map Told events ++ Replied reply ∷ []) before after
-outputs_ticked [] reply before after t = (t, tt)
-outputs_ticked (event ∷ events) reply before after t = outputs_ticked events reply before after t
+outputs_ticked : (command : Command) (events : List Event) (reply : Reply) (before after : ℕ) → IsTicked command reply before after → AreTicked command (map Told events ++ Replied reply ∷ []) before after
+outputs_ticked command [] reply before after t = (t, tt)
+outputs_ticked command (event ∷ events) reply before after t = outputs_ticked command events reply before after t
 
 module _ (old new : SpaceView) (command : Command) (can : IsGivenSmall command) where
-  pub steps_done : (reply : Reply) (gone : ℕ) (before middle after : Option (List ℕ)) (ticks ticked : ℕ) → IsAnswered old.parts new.parts command reply gone before middle → IsSpelled (reply_pieces reply) → Appends middle after (line_of_pieces (reply_pieces reply)) → (command ≡ Gc → IsTicked reply ticks ticked) →
+  pub steps_done : (reply : Reply) (gone : ℕ) (before middle after : Option (List ℕ)) (ticks ticked : ℕ) → IsAnswered old.parts new.parts command reply gone before middle → IsSpelled (reply_pieces reply) → Appends middle after (line_of_pieces (reply_pieces reply)) → IsTicked command reply ticks ticked →
       Steps old new command (AreDone command (sum_of_counts (record no_counts { gone = gone }) (reply_counts reply)) before after ticks ticked)
   steps_done reply gone before middle after ticks ticked a spelled written scans = steps a.events reply old new command can a.lawful spelled _ (record {
     counted = outputs_counts a.events reply gone a.counted;
     written = subst (Appends before after) (sym (outputs_text a.events reply)) (Appends-trans before middle after (text_of (map Told a.events)) (line_of_pieces (reply_pieces reply)) a.written written);
-    scans = λ e. outputs_ticked a.events reply ticks ticked (scans e);
+    ticked = outputs_ticked command a.events reply ticks ticked scans;
   })
 
   -- the reply was cut off

@@ -14,7 +14,7 @@ use Rattle.space_heap.proofs.FreeLaws.{is_moved-with_object, is_moved-placed, is
 use Rattle.space_heap.proofs.NewPageLaws.{stands-with_page, object_of-with_page}
 use Rattle.space_heap.proofs.NewPageSlots.{rest-with_page}
 use Rattle.space_heap.proofs.ObjectLaws.{stands-with_object, stays, rest-with_object, counters-placed, unswept-placed, stands-placed_other, object_of-placed_same, object_of-placed_other}
-use Rattle.space_collector.specs.Births.{HasRoom, IsBirth}
+use Rattle.space_collector.specs.Births.{MakesRoom, IsBirth}
 use Rattle.space_engine.specs.Births.{IsLastReply}
 use Rattle.space_collector.specs.Tidy.{IsTidy, IsOneVerdict}
 use Rattle.space_engine.specs.Turns.{CanAnswer, GoesOn, IsWithinTurns}
@@ -46,7 +46,7 @@ record IsAsTidy (v w : HeapView) : Type 0 where
   pub counters : w.counters ≡ v.counters
   pub tidy : IsTidy v → IsTidy w
 
-roomy : (v w : HeapView) (pool : ℕ) → HasRoom v w pool → IsAsTidy v w
+roomy : (v w : HeapView) (pool : ℕ) → MakesRoom v w pool → IsAsTidy v w
 roomy v w pool room = ⊎_elim
     (λ same. subst (IsAsTidy v) (sym same) (record { counters = refl; tidy = λ tidy. tidy }))
     (λ (page, g).

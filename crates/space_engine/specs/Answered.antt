@@ -19,14 +19,14 @@ pub record IsLawfulAnswer (old new : View) (command : Command) (events : List Ev
   pub answers : (s : State) → Holds old s → AnswersWith s new command events reply
   pub spelled : (s : State) → Holds old s → AreSpelled (map Told events)
 
--- the events were written, and tell of so many gone objects
+-- some events and the reply are lawful, the events were written, and they tell of so many gone objects
 pub record IsAnswered (old new : View) (command : Command) (reply : Reply) (gone : ℕ) (before after : Option (List ℕ)) : Type 0 where
   pub events : List Event
   pub lawful : IsLawfulAnswer old new command events reply
   pub counted : counts_of (map Told events) ≡ record no_counts { gone = gone }
   pub written : Appends before after (text_of (map Told events))
 
--- a front of the events was written
+-- some events and a reply that can be spelled are lawful, and a front of the text of the events was written
 pub record IsCutOff (old new : View) (command : Command) (before after : Option (List ℕ)) : Type 0 where
   pub events : List Event
   pub reply : Reply

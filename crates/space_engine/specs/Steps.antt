@@ -2,7 +2,6 @@
 use Rattle.std.specs.Prelude.{◌≡◌, ℕ, List, [], Option}
 use Rattle.std.specs.Io.KnownBytes.{Appends}
 use Rattle.space_model.specs.declared.command.Command.{Command}
-use Rattle.space_model.specs.declared.command.Command.TheVariants.{Gc}
 use Rattle.space_model.specs.declared.event.Event.{Event}
 use Rattle.space_model.specs.declared.phase.Phase.TheVariants.{Idle}
 use Rattle.space_model.specs.declared.reply.Reply.{Reply}
@@ -27,7 +26,7 @@ pub record AnswersWith (s : State) (new : View) (command : Command) (events : Li
 abbrev pub Answers : State → View → Command → Reply → Type 0
 Answers s new command reply = AnswersWith s new command [] reply
 
--- the outputs of the command are lawful, the space stands for the state after them, and this is so of the outputs
+-- the outputs of the command are lawful, the space stands for the state after them, and IsSo holds of the outputs
 pub record StepsFrom (s : State) (new : SpaceView) (command : Command) (IsSo : List Output → Type 0) : Type 0 where
   pub outputs : List Output
   pub state : State
@@ -40,8 +39,8 @@ pub record StepsFrom (s : State) (new : SpaceView) (command : Command) (IsSo : L
 abbrev pub Steps : SpaceView → SpaceView → Command → (List Output → Type 0) → Type 0
 Steps old new command IsSo = (s : State) → Stands old s → StepsFrom s new command IsSo
 
--- the outputs were counted and written, and in `gc` the ledger's count rose by the number of scans that they tell
-pub record AreDone (command : Command) (counts : Counts) (before after : Option (List ℕ)) (ticks ticked : ℕ) (outputs : List Output) : Type 0 where
+-- the outputs were counted and written, and the ledger's count rose as they tell
+pub record AreDone (command : Command) (counts : Counts) (before after : Option (List ℕ)) (before_ticks after_ticks : ℕ) (outputs : List Output) : Type 0 where
   pub counted : counts ≡ counts_of outputs
   pub written : Appends before after (text_of outputs)
-  pub scans : command ≡ Gc → AreTicked outputs ticks ticked
+  pub ticked : AreTicked command outputs before_ticks after_ticks

@@ -16,11 +16,11 @@ pub record View : Type 0 where
 abbrev pub empty_view : ℕ → View
 empty_view limit = record { heap = empty_heap limit; roots = []; stack = [] }
 
--- the heap is another one
+-- the heap is this one; roots and stack stay
 abbrev pub with_heap : View → HeapView → View
 with_heap v heap = record v { heap = heap }
 
--- a root was written
+-- the root holds the word: it keeps its place, and a new one comes last
 abbrev pub with_root_written : View → List ℕ → ℕ → View
 with_root_written v root word = record v { roots = with_root_word v.roots root word }
 
@@ -28,7 +28,7 @@ with_root_written v root word = record v { roots = with_root_word v.roots root w
 abbrev pub with_root_reserved : View → List ℕ → Bool → View
 with_root_reserved v root is_new = record v { roots = if is_new then v.roots ++ (root, 0) ∷ [] else v.roots }
 
--- a root was taken away
+-- the root was taken away, where there is one
 abbrev pub with_root_dropped : View → List ℕ → View
 with_root_dropped v root = record v { roots = without_root v.roots root }
 

@@ -83,7 +83,7 @@ impl Engine {
         ensures done { IfOk result (λ answer. IsAnswered self.old self.new Command.Gc answer.reply answer.gone (K.written sink.old) (K.written sink.new)) }
         ensures fault { OnErr result (IsCutOff self.old self.new Command.Gc (K.written sink.old) (K.written sink.new)) }
         ensures cause { HasCause (K.faults sink.old) (K.faults sink.new) result }
-        ensures scans { IfOk result (λ answer. IsTicked answer.reply steps.old steps.new) }
+        ensures ticked { IfOk result (λ answer. IsTicked Command.Gc answer.reply steps.old steps.new) }
         ensures goes_on { GoesOn self.old.heap self.new.heap }
         ensures steps { RisesByFewer steps.old steps.new }
     {
@@ -110,7 +110,7 @@ impl Engine {
         ensures done { IfOk result (λ answer. IsAnswered self.old self.new command.now answer.reply answer.gone (K.written sink.old) (K.written sink.new)) }
         ensures fault { OnErr result (IsCutOff self.old self.new command.now (K.written sink.old) (K.written sink.new)) }
         ensures cause { HasCause (K.faults sink.old) (K.faults sink.new) result }
-        ensures scans { command.now ≡ Command.Gc → IfOk result (λ answer. IsTicked answer.reply steps.old steps.new) }
+        ensures ticked { IfOk result (λ answer. IsTicked command.now answer.reply steps.old steps.new) }
         ensures goes_on { GoesOn self.old.heap self.new.heap }
         ensures steps { RisesByFewer steps.old steps.new }
     {

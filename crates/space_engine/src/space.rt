@@ -46,7 +46,8 @@ impl Model for Space {
 }
 
 impl Space {
-    /// The space before the first command, with so many pages at most.
+    /// The space before the first command, with so many pages of 65,536 bytes at most. The error says that there is no memory
+    /// for its tables.
     pub fn new(alloc: Global, limit: u32) -> Result<Space, NoMemory>
         requires some { 1 ≤ limit }
         requires most { limit ≤ 4096 }
@@ -75,7 +76,10 @@ impl Space {
         self.turns
     }
 
-    /// Answers a command, and writes its lines. After an `Err` a prefix of them was written, and the space is spent.
+    /// Answers a command: writes its events, and then its reply, a line each. The answer counts them.
+    ///
+    /// An `Err` comes only after a failed write. The command is done then too, a front of its lines was written, and the space
+    /// is spent: it takes no further command. The ledger counts each reading of an object's fields.
     pub fn step<K: Sink, L: Ledger>(
         &mut self,
         command: &Command,
@@ -88,7 +92,7 @@ impl Space {
         requires steps { steps.old < 2 ^ 62 }
 
         // The outputs are lawful, from each state that the space stands for, and it stands for a state after them. They
-        // were written, and the counts are theirs. In `gc` the ledger's count rises by the scans that it tells.
+        // were written, and the counts are theirs. The ledger's count rises as they tell.
         ensures done { IfOk result (λ counts. LawfulSteps self.old self.new command.now (AreDone command.now counts (K.written sink.old) (K.written sink.new) steps.old steps.new)) }
         ensures fault { OnErr result (LawfulSteps self.old self.new command.now (λ outputs. AppendsPrefix (K.written sink.old) (K.written sink.new) (text_of outputs))) }
         ensures cause { HasCause (K.faults sink.old) (K.faults sink.new) result }

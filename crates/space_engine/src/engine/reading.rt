@@ -1,16 +1,15 @@
 // What operands stand for: words, names and values.
-ghost use Rattle.std.specs.Prelude.{◌≡◌, ◌<◌, ◌≤◌, ◌+◌, ◌^◌, true, length, IfOk};
+ghost use Rattle.std.specs.Prelude.{◌≡◌, ◌<◌, ◌≤◌, ◌+◌, ◌^◌, true, length, IfOk, MatchResult};
 ghost use Rattle.space_model.specs.Answers.{field_value};
 ghost use Rattle.space_model.specs.Operands.{input_value, named_by, operand_value, word_value};
 ghost use Rattle.space_model.specs.GivenIntegers.{IsSmallInput};
 ghost use Rattle.space_model.specs.State.{State};
 ghost use Rattle.space_heap.specs.Objects.{stands, object_of};
-ghost use Rattle.space_collector.specs.Ticks.{RisesByOneAtMost};
 ghost use Rattle.space_engine.specs.Stands.{Holds};
 ghost use Rattle.space_engine.specs.Words.{operand_word, word_result, owner_of_field, field_word};
 
 use super::Engine;
-use space_model::{Input, Ledger, Operand, Refusal, Steps, Value, small_of};
+use space_model::{Input, Ledger, Operand, Refusal, Steps, Value, small_of, small_word};
 
 impl Engine {
     /// The name of the object that stands at this address, if one does.
@@ -77,7 +76,7 @@ impl Engine {
         match input {
             Input::From(operand) => self.word_of(operand),
             Input::Nil => Ok(0),
-            Input::Small(number) => Ok(2 * *number + 1),
+            Input::Small(number) => Ok(small_word(*number)),
         }
     }
 
@@ -108,7 +107,7 @@ impl Engine {
     ) -> Result<u64, Refusal>
         requires { steps.old < 2 ^ 62 }
         ensures word { result ≡ field_word self.now.heap word index }
-        ensures steps { RisesByOneAtMost steps.old steps.new }
+        ensures ticked { MatchResult result (λ _. steps.new ≡ steps.old + 1) (λ _. steps.new ≡ steps.old) }
     {
         match self.owner_of(word, index) {
             Ok(address) => Ok(self.heap.field(address, index, steps)),
@@ -125,7 +124,7 @@ impl Engine {
     ) -> Result<u64, Refusal>
         requires { steps.old < 2 ^ 62 }
         ensures word { (s : State) → Holds self.now s → result ≡ word_result s.heap.place (field_value s.graph (operand_value s object.now) index) }
-        ensures steps { RisesByOneAtMost steps.old steps.new }
+        ensures ticked { MatchResult result (λ _. steps.new ≡ steps.old + 1) (λ _. steps.new ≡ steps.old) }
     {
         match self.word_of(object) {
             Ok(word) => self.field_of(word, index, steps),

@@ -4,7 +4,7 @@ ghost use Rattle.space_model.specs.declared.command.Command.TheVariants.{Set, Dr
 ghost use Rattle.space_model.specs.GivenIntegers.{IsSmallInput};
 ghost use Rattle.space_model.specs.State.{State};
 ghost use Rattle.space_roots.specs.WordRoots.{root_word};
-ghost use Rattle.space_collector.specs.Ticks.{RisesByOneAtMost};
+ghost use Rattle.space_engine.specs.Ticks.{IsTicked};
 ghost use Rattle.space_engine.specs.Stands.{Holds};
 ghost use Rattle.space_engine.specs.Steps.{Answers};
 ghost use Rattle.space_engine.specs.Views.{with_root_written, with_root_dropped};
@@ -72,7 +72,7 @@ impl Engine {
         requires { steps.old < 2 ^ 62 }
         ensures answers { (s : State) → Holds self.old s → Answers s self.new (Load root.now object.now index) result }
         ensures heap { self.new.heap ≡ self.old.heap }
-        ensures steps { RisesByOneAtMost steps.old steps.new }
+        ensures ticked { IsTicked (Load root.now object.now index) result steps.old steps.new }
     {
         let word = match self.read(object, index, steps) {
             Ok(word) => word,

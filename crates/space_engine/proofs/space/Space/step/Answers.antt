@@ -6,7 +6,7 @@ pub returns-in-Ok-write_reply-clause-done : goal.returns-in-Ok-write_reply-claus
 returns-in-Ok-write_reply-clause-done g c = rw (← c.self.view_is, c.counts_of_answer.ensures)
     (steps_done (record { parts = c.self.inside.engine; turns = c.self.inside.turns; is_spent = c.self.inside.is_spent })
     (record { parts = c.answer.new.self; turns = c.self.inside.turns + 1; is_spent = c.self.inside.is_spent })
-    _ c.requires.given _ _ _ _ _ _ _ c.in-Ok.ensures.done c.in-Ok-write_reply.ensures.spelled c.in-Ok-write_reply.ensures.bytes c.in-Ok.ensures.scans)
+    _ c.requires.given _ _ _ _ _ _ _ c.in-Ok.ensures.done c.in-Ok-write_reply.ensures.spelled c.in-Ok-write_reply.ensures.bytes c.in-Ok.ensures.ticked)
 
 pub returns-in-Err-write_reply-clause-fault : goal.returns-in-Err-write_reply-clause-fault
 returns-in-Err-write_reply-clause-fault g c = rw (← c.self.view_is)
