@@ -4,6 +4,7 @@ use Rattle.space_io.specs.declared.memory.MemorySource.TheInside.{Inside}
 use Rattle.space_io.specs.declared.memory.MemorySink.TheInside.{Inside as SinkInside}
 use Rattle.space_io.specs.Memory.{SourceView, SinkView}
 
+-- the view of a source, by its fields
 abbrev pub source_of : Inside → SourceView
 source_of a =
     record {
@@ -14,10 +15,12 @@ source_of a =
       faults = a.faults;
     }
 
+-- the place is within the bytes, and a call may give some
 pub record IsSource (a : Inside) : Type 0 where
   pub within : a.at ≤ vec_len a.bytes
   pub some : 0 < a.most
 
+-- the view of a sink, by its fields
 abbrev pub sink_of : SinkInside → SinkView
 sink_of a =
     record {

@@ -1,4 +1,5 @@
 use Rattle.std.proofs.Common.{arith, rules, refl, sym, ap, ◌∙◌, ◌+◌}
+use Rattle.space_io.specs.Reading.{Reading}
 use Rattle.space_run.proofs.Replaying.{kept_calm, started, after_taking, after_line, after_blank, at_the_end, stopped, stopped_early, failed_line, malformed_line, long_line, read_failed, limit_reached}
 use Rattle.space_run.proofs.replay.replay.Goals as goal
 
@@ -25,14 +26,14 @@ pub returns-in-Err-InputLimit-clause-limit : goal.returns-in-Err-InputLimit-clau
 returns-in-Err-InputLimit-clause-limit g c =
     let next = c.next.follows.holds-at-none in
     let fault = rw c.in-Err-InputLimit.is at next.fault in
-    let limit = rw c.in-Err-InputLimit.field-0-is at fault.0 in
+    let limit = rw c.in-Err-InputLimit.field-0-is at fault in
     λ _. limit_reached c.args.space.parts.heap.limit _ _ _ _ next.mid _ (after_taking c.args.space.parts.heap.limit _ _ _ _ _ _ _ _ c.each_line.invariant.done next.takes) limit.0 limit.1
 
 pub returns-in-Err-ReadFault-clause-answered : goal.returns-in-Err-ReadFault-clause-answered
 returns-in-Err-ReadFault-clause-answered g c =
     let next = c.next.follows.holds-at-none in
     let fault = rw c.in-Err-ReadFault.is at next.fault in
-    let failed = rw c.in-Err-ReadFault.field-0-is at fault.0 in
+    let failed = rw c.in-Err-ReadFault.field-0-is at fault in
     λ _. read_failed c.args.space.parts.heap.limit _ _ _ _ next.mid _ (after_taking c.args.space.parts.heap.limit _ _ _ _ _ _ _ _ c.each_line.invariant.done next.takes) failed.0 failed.1
 
 pub returns-in_default-clause-malformed : goal.returns-in_default-clause-malformed
@@ -49,9 +50,9 @@ pub returns-in-Err-TooLong-clause-malformed : goal.returns-in-Err-TooLong-clause
 returns-in-Err-TooLong-clause-malformed g c =
     let next = c.next.follows.holds-at-none in
     let fault = rw c.in-Err-TooLong.is at next.fault in
-    let long = rw c.in-Err-TooLong.field-0-is at fault.0 in
+    let long = rw c.in-Err-TooLong.field-0-is at fault in
     let done = after_taking c.args.space.parts.heap.limit _ _ _ _ _ _ _ _ c.each_line.invariant.done next.takes in
-    λ three. stopped c.args.space.parts.heap.limit _ _ _ _ _ next.mid _ (c.each_line.number + 1) done (rw fault.1 at next.most) (ap (λ n. n + 1) (c.each_line.invariant.numbered ∙ sym next.takes.number))
+    λ three. stopped c.args.space.parts.heap.limit _ _ _ _ _ next.mid _ (c.each_line.number + 1) done (rw (ap (λ (reading : Reading). reading.taken) (rw c.in-Err-TooLong.is at next.same)) at next.most) (ap (λ n. n + 1) (c.each_line.invariant.numbered ∙ sym next.takes.number))
     (long_line c.args.space.parts.heap.limit _ _ _ _ next.mid _ done long)
     (c.stop_at.ensures.written three)
 
@@ -104,9 +105,9 @@ pub returns-in-Err-TooLong-clause-front : goal.returns-in-Err-TooLong-clause-fro
 returns-in-Err-TooLong-clause-front g c =
     let next = c.next.follows.holds-at-none in
     let fault = rw c.in-Err-TooLong.is at next.fault in
-    let long = rw c.in-Err-TooLong.field-0-is at fault.0 in
+    let long = rw c.in-Err-TooLong.field-0-is at fault in
     let done = after_taking c.args.space.parts.heap.limit _ _ _ _ _ _ _ _ c.each_line.invariant.done next.takes in
-    λ _. stopped_early c.args.space.parts.heap.limit _ _ _ _ _ next.mid _ (c.each_line.number + 1) done (rw fault.1 at next.most) (ap (λ n. n + 1) (c.each_line.invariant.numbered ∙ sym next.takes.number))
+    λ _. stopped_early c.args.space.parts.heap.limit _ _ _ _ _ next.mid _ (c.each_line.number + 1) done (rw (ap (λ (reading : Reading). reading.taken) (rw c.in-Err-TooLong.is at next.same)) at next.most) (ap (λ n. n + 1) (c.each_line.invariant.numbered ∙ sym next.takes.number))
     (long_line c.args.space.parts.heap.limit _ _ _ _ next.mid _ done long)
     c.stop_at.ensures.front
 
