@@ -1,5 +1,5 @@
 -- How many gone objects stand on a page, for the callers.
-use Rattle.std.proofs.Common.{◌≡◌, ⊎_elim, ℕ, zero, suc, ◌+◌, ◌<◌, Bool, true, false, true≢false, List, [], ◌∷◌, length, map, get_or, nat_eq, refl, sym, ap, ◌∙◌, subst, arith, Option, None, Some}
+use Rattle.std.proofs.Common.{nat_le, nat_lt, ◌≡◌, ⊎_elim, ℕ, zero, suc, ◌+◌, ◌<◌, Bool, true, false, true≢false, List, [], ◌∷◌, length, map, get_or, nat_eq, refl, sym, ap, ◌∙◌, subst, arith, Option, None, Some}
 use Rattle.std.specs.Prelude.{count_by}
 use Rattle.std.specs.List.{range_with_len, filter, IsDistinct}
 use Rattle.std.specs.Set.{is_member}
@@ -73,11 +73,15 @@ module _ (v : HeapView) (page : ℕ) (sound : IsSoundHeap v) where
   unfolding stands object_of
   gone_is a = refl
 
+  below_end : (slot : ℕ) → is_member nat_eq (range_with_len 0 (length slots)) slot ≡ true → slot < length slots
+  below_end slot m =
+      let below : slot < 0 + length slots = ltb-true slot (0 + length slots) (and_parts (nat_le 0 slot) (nat_lt slot (0 + length slots)) (sym (member_range 0 (length slots) slot) ∙ m)).1 in
+      omega arith
+
   within : (slot : ℕ) → is_member nat_eq those slot ≡ true → (slot < length slots) × (test slot ≡ true)
   within slot m =
       let p = and_parts _ _ (sym (member_filter test (range_with_len 0 (length slots)) slot) ∙ m) in
-      let r = and_parts _ _ (sym (member_range 0 (length slots) slot) ∙ p.0) in
-      (let l = ltb-true slot (0 + length slots) r.1 in omega arith, p.1)
+      (below_end slot p.0, p.1)
 
   member : (slot : ℕ) → slot < length slots → test slot ≡ true → is_member nat_eq those slot ≡ true
   member slot b t = grind (arith, nat_tests, member_filter test (range_with_len 0 (length slots)) slot, member_range 0 (length slots) slot)
