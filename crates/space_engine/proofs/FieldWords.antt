@@ -132,10 +132,6 @@ module _ (v : View) (s : State) (h : Holds v s) where
       ok_same a b e = cc
   read_found (Err why) word index present e = absurd (cc)
 
-  pub read_lost : (found : Result Value Refusal) (why : Refusal) (index : ℕ) → Err why ≡ word_result s.heap.place found → Err why ≡ word_result s.heap.place (field_value s.graph found index)
-  read_lost (Ok value) why index e = absurd (cc)
-  read_lost (Err other) why index e = e
-
   -- where a store writes, and what
   write_value : (value new : Value) (index : ℕ) → IsPresentValue s.heap.place value →
       and_then (owner_of_field v.heap (value_word s.heap.place value) index) (λ address. Ok (address, value_word s.heap.place new)) ≡ written_words s.heap.place (written_field s.graph (Ok value) index (Ok new))

@@ -30,13 +30,9 @@ impl Engine {
         ensures there { IfOk result (λ written. stands self.now.heap written.0 ≡ true) }
         ensures field { IfOk result (λ written. index < length (object_of self.now.heap written.0).fields) }
     {
-        match both(self.word_of(object), self.input_word(value)) {
-            Ok((object, word)) => match self.owner_of(object, index) {
-                Ok(address) => Ok((address, word)),
-                Err(why) => Err(why),
-            },
-            Err(why) => Err(why),
-        }
+        let (object, word) = both(self.word_of(object), self.input_word(value))?;
+        let address = self.owner_of(object, index)?;
+        Ok((address, word))
     }
 
     // Writes the word of a field of the object at this address.

@@ -109,10 +109,8 @@ impl Engine {
         ensures word { result ≡ field_word self.now.heap word index }
         ensures ticked { MatchResult result (λ _. steps.new ≡ steps.old + 1) (λ _. steps.new ≡ steps.old) }
     {
-        match self.owner_of(word, index) {
-            Ok(address) => Ok(self.heap.field(address, index, steps)),
-            Err(why) => Err(why),
-        }
+        let address = self.owner_of(word, index)?;
+        Ok(self.heap.field(address, index, steps))
     }
 
     /// The word of a field of an operand's object.
@@ -126,9 +124,7 @@ impl Engine {
         ensures word { (s : State) → Holds self.now s → result ≡ word_result s.heap.place (field_value s.graph (operand_value s object.now) index) }
         ensures ticked { MatchResult result (λ _. steps.new ≡ steps.old + 1) (λ _. steps.new ≡ steps.old) }
     {
-        match self.word_of(object) {
-            Ok(word) => self.field_of(word, index, steps),
-            Err(why) => Err(why),
-        }
+        let word = self.word_of(object)?;
+        self.field_of(word, index, steps)
     }
 }

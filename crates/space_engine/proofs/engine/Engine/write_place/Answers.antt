@@ -1,4 +1,5 @@
 use Rattle.std.proofs.Common.{◌≡◌, ℕ, ◌∙◌, ap, Result, Ok}
+use Rattle.std.proofs.lemmas.Result.{err_from_is_err_and}
 use Rattle.space_model.specs.declared.reply.Refusal.{Refusal}
 use Rattle.space_model.specs.Refusals.{and_then, both}
 use Rattle.space_engine.proofs.FieldWords.{write_found, write_lost, operand_present}
@@ -8,17 +9,22 @@ use Rattle.space_engine.proofs.engine.Engine.write_place.Goals as goal
 same_both : (a b x y : Result ℕ Refusal) → a ≡ x → b ≡ y → both a b ≡ both x y
 same_both a b x y e f = ap (λ a. both a b) e ∙ ap (both x) f
 
-pub returns-in-Ok-owner_of-clause-written : goal.returns-in-Ok-owner_of-clause-written
-returns-in-Ok-owner_of-clause-written c = λ s h.
-    ap (λ (r : Result ℕ Refusal). and_then r (λ a. Ok (a, c.in-Ok.word))) (c.in-Ok-owner_of.ensures.owner)
-    ∙ write_found c.args.self.now s h _ _ c.in-Ok.object c.in-Ok.word c.args.index (operand_present c.args.self.now s h c.args.object.now)
-    (c.in-Ok.ensures ∙ same_both _ _ _ _ (c.word_of.ensures s h) (c.input_word.ensures s h))
+pub returns-clause-written : goal.returns-clause-written
+returns-clause-written c = λ s h.
+    ap (λ (r : Result ℕ Refusal). and_then r (λ a. Ok (a, c.in_ok-object.word))) (c.in_ok-address.ensures.owner)
+    ∙ write_found c.args.self.now s h _ _ c.in_ok-object.object c.in_ok-object.word c.args.index (operand_present c.args.self.now s h c.args.object.now)
+    (c.in_ok-object.ensures ∙ same_both _ _ _ _ (c.word_of.ensures s h) (c.input_word.ensures s h))
 
-pub returns-in-Err-owner_of-clause-written : goal.returns-in-Err-owner_of-clause-written
-returns-in-Err-owner_of-clause-written c = λ s h.
-    ap (λ (r : Result ℕ Refusal). and_then r (λ a. Ok (a, c.in-Ok.word))) (c.in-Err-owner_of.ensures.owner)
-    ∙ write_found c.args.self.now s h _ _ c.in-Ok.object c.in-Ok.word c.args.index (operand_present c.args.self.now s h c.args.object.now)
-    (c.in-Ok.ensures ∙ same_both _ _ _ _ (c.word_of.ensures s h) (c.input_word.ensures s h))
+pub returns-in_err-address-clause-written : goal.returns-in_err-address-clause-written
+returns-in_err-address-clause-written c = λ s h.
+    let p = err_from_is_err_and c.from_residual-in_err-address.result c.from_residual-in_err-address.ensures.1 in
+    rw (p.1, p.2) (
+    ap (λ (r : Result ℕ Refusal). and_then r (λ a. Ok (a, c.in_ok-object.word))) (c.in_err-address.ensures.owner)
+    ∙ write_found c.args.self.now s h _ _ c.in_ok-object.object c.in_ok-object.word c.args.index (operand_present c.args.self.now s h c.args.object.now)
+    (c.in_ok-object.ensures ∙ same_both _ _ _ _ (c.word_of.ensures s h) (c.input_word.ensures s h))
+    )
 
-pub returns-in-Err-clause-written : goal.returns-in-Err-clause-written
-returns-in-Err-clause-written c = λ s h. write_lost c.args.self.now s h _ _ _ c.args.index (c.in-Err.ensures ∙ same_both _ _ _ _ (c.word_of.ensures s h) (c.input_word.ensures s h))
+pub returns-in_err-object-clause-written : goal.returns-in_err-object-clause-written
+returns-in_err-object-clause-written c = λ s h.
+    let p = err_from_is_err_and c.from_residual.result c.from_residual.ensures.1 in
+    rw (p.1, p.2) (write_lost c.args.self.now s h _ _ _ c.args.index (c.in_err-object.ensures ∙ same_both _ _ _ _ (c.word_of.ensures s h) (c.input_word.ensures s h)))
