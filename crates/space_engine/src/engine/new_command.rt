@@ -105,10 +105,7 @@ impl Engine {
             Ok(is_new) => is_new,
             Err(_) => return Err(Unborn::NoMemory),
         };
-        match self.add_reserved(root, is_new, fields, guard, style) {
-            Ok(made) => Ok(made),
-            Err(why) => Err(why),
-        }
+        self.add_reserved(root, is_new, fields, guard, style)
     }
 
     // Answers once the root's place was made and there are as many pages as may be: a spare one takes no memory.
