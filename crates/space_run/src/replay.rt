@@ -137,7 +137,7 @@ fn page_limit(words: &Vec<String>) -> Option<u32>
 /// | 3 | a line is malformed or longer than 4,096 bytes; those before it are answered, and `line L: malformed` is written last |
 /// | 4 | a read failed; each whole line that came before is answered |
 /// | 5 | a write failed; a front of the answers was written, with the line that tells of a malformed one where it was due |
-/// | 6 | 2^32 bytes were taken without an end; each whole line of them is answered |
+/// | 6 | 2^32 bytes were taken, which is the most; each whole line of them is answered |
 pub fn run<S: Source, K: Sink>(
     alloc: Global,
     words: &Vec<String>,
@@ -164,7 +164,7 @@ pub fn run<S: Source, K: Sink>(
     ensures limit { (limit : ℕ) → IsReplay words.now.items limit → result ≡ 6 → HasReachedLimit limit (S.rest source.old) (S.rest source.new) (K.written sink.old) (K.written sink.new) }
     ensures status { result ≤ 6 }
 
-    // A failed call ends the replay: it isn't tried again, and the counts of faults never fall.
+    // A failed call ends the replay, and is the only one that failed. The counts of faults never fall.
     ensures reads_heeded { result ≢ 4 → S.faults source.new ≡ S.faults source.old }
     ensures writes_heeded { result ≢ 5 → K.faults sink.new ≡ K.faults sink.old }
     ensures reads_counted { S.faults source.old ≤ S.faults source.new }

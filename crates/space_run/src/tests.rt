@@ -173,6 +173,16 @@ fn no_more_is_read_than_is_needed(rt: HostRuntime) -> Result<(), Fail> {
         assert!(rt; source.read(&mut next) == Ok(12));
         assert!(rt; next.as_slice() == left);
     }
+    // The second read tells the end, and there is no third, which would fail.
+    let (status, text) = replayed(
+        alloc,
+        &["replay"],
+        b"set a nil",
+        [3u64].to_vec(alloc)?,
+        Vec::new(alloc),
+    )?;
+    assert_eq!(rt; status, 0);
+    assert!(rt; text.as_slice() == b"ok\n".as_slice());
     Ok(())
 }
 
