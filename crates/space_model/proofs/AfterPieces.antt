@@ -1,35 +1,58 @@
 -- A state after a piece of work is sound where its parts are: what is noted after it makes the rest so.
-use Rattle.std.proofs.Common.{◌≡◌, length, nat_eq, subst, sym}
+use Rattle.std.proofs.Common.{◌≡◌, length, nat_eq, subst, sym, List}
 use Rattle.std.specs.List.{IsDistinct}
-use Rattle.std.specs.FinMap.{empty}
+use Rattle.space_model.specs.Graph.{Item}
 use Rattle.space_model.specs.Moments.{noted}
-use Rattle.space_model.specs.Sound.{Sound, SoundLayout, SoundCorpses, SoundSweep, SoundUsed, SoundNames, AreSoundItems, AreSoundRoots}
-use Rattle.space_model.specs.State.{State}
+use Rattle.space_model.specs.Sound.{Sound, SoundLayout, SoundCorpses, SoundSweep, SoundUsed, SoundResting, SoundCursor, SoundLeft, SoundStale, SoundNames, AreSoundItems, AreSoundRoots}
+use Rattle.space_model.specs.State.{State, Heap, Collector}
 use Rattle.space_model.proofs.NotedLaws.{SoundMoments-noted}
+
+-- what is asked of where objects stand, and of what the collector is at
+pub record SoundHeap (graph : List Item) (heap : Heap) (collector : Collector) : Type 0 where
+  pub layout : SoundLayout graph heap.place heap.pages heap.limit
+  pub corpses : SoundCorpses graph heap.place heap.corpses heap.pages heap.unswept
+  pub sweep : SoundSweep collector.phase heap.pages heap.unswept
+  pub used : SoundUsed collector.phase heap.pages heap.unswept heap.place
+  pub resting : SoundResting collector.phase heap.left collector.stale
+  pub cursor : SoundCursor collector.phase collector.cursor
+  pub left : SoundLeft graph heap.place heap.corpses heap.left heap.pages
+  pub stale : SoundStale graph heap.place heap.left collector.stale collector.cursor
+  pub outlived : length collector.outlived ≡ length graph
 
 -- all that is asked of a sound state but for what was noted
 pub record SoundParts (s : State) : Type 0 where
-  pub layout : SoundLayout s.graph s.heap.place s.heap.pages s.heap.limit
-  pub corpses : SoundCorpses s.graph s.heap.place s.heap.corpses s.heap.pages s.heap.unswept
-  pub sweep : SoundSweep s.collector.phase s.heap.pages s.heap.unswept
-  pub used : SoundUsed s.collector.phase s.heap.pages s.heap.unswept s.heap.place
-  pub left : s.heap.left ≡ empty
+  pub heap : SoundHeap s.graph s.heap s.collector
   pub names : SoundNames s.graph s.roots s.heap.place
   pub items : AreSoundItems s.graph
   pub roots : AreSoundRoots s.roots
-  pub ages : length s.collector.outlived ≡ length s.graph
   pub once : IsDistinct nat_eq s.history.seen
 
-pub after_piece : (u t : State) → t ≡ noted u → SoundParts u → Sound t
-after_piece u t e h = subst Sound (sym e) (record {
+pub heap_of : (s : State) → Sound s → SoundHeap s.graph s.heap s.collector
+heap_of s h = record {
   layout = h.layout;
   corpses = h.corpses;
   sweep = h.sweep;
   used = h.used;
+  resting = h.resting;
+  cursor = h.cursor;
   left = h.left;
+  stale = h.stale;
+  outlived = h.outlived;
+}
+
+pub after_piece : (u t : State) → t ≡ noted u → SoundParts u → Sound t
+after_piece u t e h = subst Sound (sym e) (record {
+  layout = h.heap.layout;
+  corpses = h.heap.corpses;
+  sweep = h.heap.sweep;
+  used = h.heap.used;
+  resting = h.heap.resting;
+  cursor = h.heap.cursor;
+  left = h.heap.left;
+  stale = h.heap.stale;
   names = h.names;
   items = h.items;
   roots = h.roots;
-  ages = h.ages;
+  outlived = h.heap.outlived;
   moments = SoundMoments-noted u h.once;
 })

@@ -52,7 +52,8 @@ output_of ts = pick (forms (λ i. get_or (numbers ts) i 0)) ts
 
 -- tokens are whole; words are no numbers; no LF; and the output comes back
 abbrev IsClear : Output → Type 0
-IsClear o = (are_whole (shape (output_pieces o)) ≡ true) × (are_raw (shape (output_pieces o)) ≡ true) × (say_no_lf (output_pieces o) ≡ true) × (output_of (shape (output_pieces o)) ≡ Some o)
+IsClear o = (are_whole (shape (output_pieces o)) ≡ true) × (are_raw (shape (output_pieces o)) ≡ true) × (say_no_lf (output_pieces o) ≡ true) ×
+    (output_of (shape (output_pieces o)) ≡ Some o)
 
 -- each form by itself; a clause for each type with cases within Reply
 clear : (o : Output) → IsClear o

@@ -1,22 +1,24 @@
 -- The start of a marking, a verdict and sweeps keep states sound.
-use Rattle.std.proofs.Common.{◌≡◌, ℕ, zero, suc, true, List, ◌∷◌, nat_eq, sym, ◌∙◌, subst, arith, inl, Some}
+use Rattle.std.proofs.Common.{◌≡◌, ◌≢◌, ℕ, zero, suc, true, List, ◌∷◌, nat_eq, sym, ◌∙◌, subst, arith, inl, Some}
 use Rattle.std.specs.Set.{is_member}
 use Rattle.std.specs.FinMap.{get}
 use Rattle.std.proofs.lemmas.Bool.{false_from_ne_true}
 use Rattle.space_model.specs.declared.event.Kind.{Kind}
-use Rattle.space_model.specs.declared.phase.Phase.TheVariants.{Sweeping}
-use Rattle.space_model.specs.Collections.{mark_started, StartMark, sweep_phase, took, Took, swept, Sweep1, Sweeps, SweepAll}
+use Rattle.space_model.specs.declared.phase.Phase.TheVariants.{Sweeping, Moving, Fixing}
+use Rattle.space_model.specs.Markings.{mark_started, StartMark, took, Took}
+use Rattle.space_model.specs.Sweeps.{sweep_phase, swept, Sweep1, Sweeps, SweepAll}
 use Rattle.space_model.specs.Graph.{IsChild}
 use Rattle.space_model.specs.Layout.{page_of}
-use Rattle.space_model.specs.Maps.{without}
-use Rattle.space_model.specs.Pages.{pool_pages}
+use Rattle.space_model.specs.Maps.{without, carried_over}
+use Rattle.space_model.specs.Pages.{pool_pages, spared}
 use Rattle.space_model.specs.Reach.{IsStart}
 use Rattle.space_model.specs.Sound.{Sound, SoundNames, SoundCorpses, SoundSweep, SoundUsed}
 use Rattle.space_model.specs.State.{State}
 use Rattle.space_model.specs.Verdicts.{IsVerdict}
-use Rattle.space_model.proofs.AfterPieces.{SoundParts, after_piece}
+use Rattle.space_model.proofs.AfterPieces.{SoundHeap, after_piece}
 use Rattle.space_model.proofs.AgeLaws.{aged-length}
 use Rattle.space_model.proofs.CorpsesKept.{placed_swept, SoundCorpses-took, SoundCorpses-swept}
+use Rattle.space_model.proofs.LeftKept.{SoundLeft-none, SoundStale-none}
 use Rattle.space_model.proofs.MapLaws.{held_without, left-without, present-without}
 use Rattle.space_model.proofs.PageLaws.{length-spared}
 use Rattle.space_model.proofs.ReachedLaws.{member-reached_names, reached_names-once}
@@ -30,18 +32,22 @@ Sound-mark_started s h = record {
   corpses = h.corpses;
   sweep = h.sweep;
   used = h.used;
+  resting = h.resting;
+  cursor = h.cursor;
   left = h.left;
+  stale = h.stale;
   names = h.names;
   items = h.items;
   roots = h.roots;
-  ages = h.ages;
+  outlived = h.outlived;
   moments = record { seen = λ n r. (member-reached_names s n).1 r; once = reached_names-once s; mixed = λ n m. m };
 }
 
 pub Sound-start : (s t : State) → StartMark s t → Sound s → Sound t
 Sound-start s t e h = subst Sound (sym e) (Sound-mark_started s h)
 
-SoundNames-took : (s : State) (kind : Kind) (taken : List ℕ) → IsVerdict s kind taken → SoundNames s.graph s.roots s.heap.place → SoundNames s.graph s.roots (without s.heap.place taken)
+SoundNames-took : (s : State) (kind : Kind) (taken : List ℕ) → IsVerdict s kind taken → SoundNames s.graph s.roots s.heap.place →
+    SoundNames s.graph s.roots (without s.heap.place taken)
 SoundNames-took s kind taken v h = record {
   children_present = λ m n p c. let x = left-without s.heap.place taken m p in
       present-without s.heap.place taken n (h.children_present m n x.0 c) (v.closed m n x.0 x.1 c);
@@ -49,32 +55,45 @@ SoundNames-took s kind taken v h = record {
       (false_from_ne_true _ (λ t. v.unreached n t (IsReached-start (IsChild s.graph) (IsStart s) n (inl m))));
 }
 
-took_parts : (s : State) (kind : Kind) (taken : List ℕ) → IsVerdict s kind taken → Sound s → SoundParts (took s kind taken)
-took_parts s kind taken v h = record {
-  layout = record {
-    placed = AreSlots-part s.graph s.heap.pages s.heap.place (without s.heap.place taken) (λ n a e. (held_without s.heap.place taken n a e).0) h.layout.placed;
-    limited = h.layout.limited;
-  };
-  corpses = SoundCorpses-took s.graph s.heap.place s.heap.corpses s.heap.pages s.heap.unswept taken v.present h.layout.placed h.corpses;
-  sweep = SoundSweep-took s.heap.pages;
-  used = SoundUsed-took (sweep_phase (pool_pages s.heap.pages)) s.heap.pages (without s.heap.place taken);
-  left = h.left;
+took_heap : (s : State) (kind : Kind) (taken : List ℕ) → s.collector.phase ≢ Moving → s.collector.phase ≢ Fixing → IsVerdict s kind taken → Sound s →
+    SoundHeap s.graph (took s kind taken).heap (took s kind taken).collector
+took_heap s kind taken a b v h =
+    let rests = h.resting a b in
+    record {
+      layout = record {
+        placed = AreSlots-part s.graph s.heap.pages s.heap.place (without s.heap.place taken)
+            (λ n a e. (held_without s.heap.place taken n a e).0) h.layout.placed;
+        limited = h.layout.limited;
+      };
+      corpses = SoundCorpses-took s.graph s.heap.place s.heap.corpses s.heap.pages s.heap.unswept taken v.present h.layout.placed h.corpses;
+      sweep = SoundSweep-took s.heap.pages;
+      used = SoundUsed-took (sweep_phase (pool_pages s.heap.pages)) s.heap.pages (without s.heap.place taken);
+      resting = λ _ _. rests;
+      cursor = λ _. h.cursor b;
+      left = SoundLeft-none s.graph (without s.heap.place taken) (carried_over s.heap.place s.heap.corpses taken) s.heap.left s.heap.pages rests.0;
+      stale = SoundStale-none s.graph (without s.heap.place taken) s.heap.left s.collector.stale s.collector.cursor rests.1;
+      outlived = aged-length (without s.heap.place taken) s.collector.outlived ∙ h.outlived;
+    }
+
+pub Sound-took : (s t : State) (kind : Kind) (taken : List ℕ) → s.collector.phase ≢ Moving → s.collector.phase ≢ Fixing → IsVerdict s kind taken →
+    Took s kind taken t → Sound s → Sound t
+Sound-took s t kind taken a b v e h = after_piece (took s kind taken) t e (record {
+  heap = took_heap s kind taken a b v h;
   names = SoundNames-took s kind taken v h.names;
   items = h.items;
   roots = h.roots;
-  ages = aged-length (without s.heap.place taken) s.collector.outlived ∙ h.ages;
   once = h.moments.once;
-}
+})
 
-pub Sound-took : (s t : State) (kind : Kind) (taken : List ℕ) → IsVerdict s kind taken → Took s kind taken t → Sound s → Sound t
-Sound-took s t kind taken v e h = after_piece (took s kind taken) t e (took_parts s kind taken v h)
-
-swept_parts : (s : State) (page : ℕ) (others freed : List ℕ) → s.heap.unswept ≡ page ∷ others → ((n a : ℕ) → get s.heap.corpses n ≡ Some a → page_of a ≡ page → is_member nat_eq freed n ≡ true) → Sound s → SoundParts (swept s page others freed)
-swept_parts s page others freed first all h =
+swept_heap : (s : State) (page : ℕ) (others freed : List ℕ) → s.heap.unswept ≡ page ∷ others →
+    ((n a : ℕ) → get s.heap.corpses n ≡ Some a → page_of a ≡ page → is_member nat_eq freed n ≡ true) → Sound s →
+    SoundHeap s.graph (swept s page others freed).heap (swept s page others freed).collector
+swept_heap s page others freed first all h =
     let corpses = subst (λ ps. SoundCorpses s.graph s.heap.place s.heap.corpses s.heap.pages ps) first h.corpses in
     let sweep = subst (λ ps. SoundSweep s.collector.phase s.heap.pages ps) first h.sweep in
     let use_of = subst (λ ps. SoundUsed s.collector.phase s.heap.pages ps s.heap.place) first h.used in
     let now : s.collector.phase ≡ Sweeping = sweeping s.collector.phase s.heap.pages page others sweep in
+    let rests = h.resting (λ e. cc) (λ e. cc) in
     record {
       layout = record {
         placed = placed_swept s.graph s.heap.place s.heap.corpses s.heap.pages page others freed all h.layout.placed;
@@ -83,18 +102,22 @@ swept_parts s page others freed first all h =
       corpses = SoundCorpses-swept s.graph s.heap.place s.heap.corpses s.heap.pages page others freed all corpses;
       sweep = SoundSweep-swept s.collector.phase s.heap.place s.heap.pages page others sweep;
       used = SoundUsed-swept s.collector.phase s.heap.place s.heap.pages page others (λ e. cc) (λ e. cc) use_of;
-      left = h.left;
-      names = h.names;
-      items = h.items;
-      roots = h.roots;
-      ages = h.ages;
-      once = h.moments.once;
+      resting = λ _ _. rests;
+      cursor = λ _. h.cursor (λ e. cc);
+      left = SoundLeft-none s.graph s.heap.place (without s.heap.corpses freed) s.heap.left (spared s.heap.place page s.heap.pages) rests.0;
+      stale = SoundStale-none s.graph s.heap.place s.heap.left s.collector.stale s.collector.cursor rests.1;
+      outlived = h.outlived;
     }
 
 pub Sound-swept : (s t : State) (freed : List ℕ) → Sweep1 s freed t → Sound s → Sound t
 Sound-swept s t freed p h =
-    after_piece (swept s p.page p.others freed) t p.after
-    (swept_parts s p.page p.others freed p.first (λ n a e q. (p.corpses.are n).1 (a, e, q)) h)
+    after_piece (swept s p.page p.others freed) t p.after (record {
+      heap = swept_heap s p.page p.others freed p.first (λ n a e q. (p.corpses.are n).1 (a, e, q)) h;
+      names = h.names;
+      items = h.items;
+      roots = h.roots;
+      once = h.moments.once;
+    })
 
 pub Sound-sweeps : (pages : ℕ) (s t : State) (freed : List ℕ) → Sweeps pages s freed t → Sound s → Sound t
 Sound-sweeps zero s t freed (_, same) h = subst Sound (sym same) h

@@ -8,7 +8,7 @@ use Rattle.std.specs.Set.{is_member}
 use Rattle.std.specs.Ordering.{nat_cmp}
 use Rattle.std.specs.FinMap.{FinMap, get, keys}
 use Rattle.std.proofs.lemmas.Bool.{and_parts, and_from, false≢true, eqb-true, eq-eqb}
-use Rattle.space_model.specs.Collections.{AreCorpsesOn, swept, Sweep1, Sweeps, SweepAll}
+use Rattle.space_model.specs.Sweeps.{AreCorpsesOn, swept, Sweep1, Sweeps, SweepAll}
 use Rattle.space_model.specs.Graph.{Item}
 use Rattle.space_model.specs.Layout.{page_of}
 use Rattle.space_model.specs.Maps.{address_in}
@@ -40,7 +40,8 @@ module _ (graph : List Item) (pages : List (Option ℕ)) (corpses : FinMap nat_c
   there n a e p = member_filter (λ name. is_on page (get corpses name)) (keys corpses) n
       ∙ and_from _ _ (member-keys corpses n ∙ ap is_some e) (ap (is_on page) e ∙ eq-eqb (page_of a) page p)
 
-  one : (x y : ℕ) → is_member nat_eq (names_on corpses page) x ≡ true → is_member nat_eq (names_on corpses page) y ≡ true → address_in corpses x ≡ address_in corpses y → x ≡ y
+  one : (x y : ℕ) → is_member nat_eq (names_on corpses page) x ≡ true → is_member nat_eq (names_on corpses page) y ≡ true →
+      address_in corpses x ≡ address_in corpses y → x ≡ y
   one x y m k e =
       let a = named x m in let b = named y k in
       let p : address_in corpses x ≡ a.0 = ap (λ o. unwrap_or o 0) a.1 in
@@ -68,12 +69,13 @@ freed_pages [] s = []
 freed_pages (page ∷ others) s = corpse_names s.heap.corpses page ++ freed_pages others (noted (swept s page others (corpse_names s.heap.corpses page)))
 
 -- the sweep of the first page
-pub Sweep1-there : (s : State) (page : ℕ) (others : List ℕ) → s.heap.unswept ≡ page ∷ others → Sound s → Sweep1 s (corpse_names s.heap.corpses page) (noted (swept s page others (corpse_names s.heap.corpses page)))
+pub Sweep1-there : (s : State) (page : ℕ) (others : List ℕ) → s.heap.unswept ≡ page ∷ others → Sound s →
+    Sweep1 s (corpse_names s.heap.corpses page) (noted (swept s page others (corpse_names s.heap.corpses page)))
 Sweep1-there s page others e h = record {
   page = page;
   others = others;
   first = e;
-  corpses = corpse_names-are s.graph s.heap.pages s.heap.corpses page h.corpses.buried;
+  corpses = corpse_names-are s.graph s.heap.pages s.heap.corpses page h.corpses.slots;
   after = refl;
 }
 
@@ -81,8 +83,14 @@ Sweeps-there : (pages : List ℕ) (s : State) → s.heap.unswept ≡ pages → S
 Sweeps-there [] s e h = (refl, refl)
 Sweeps-there (page ∷ others) s e h =
     let now = Sweep1-there s page others e h in
-    let mid : State = noted (swept s page others (corpse_names s.heap.corpses page)) in
-    (corpse_names s.heap.corpses page, freed_pages others mid, mid, refl, now, Sweeps-there others mid refl (Sound-swept s mid (corpse_names s.heap.corpses page) now h))
+    let mid : State = noted (swept s page others (corpse_names s.heap.corpses page)) in (
+      corpse_names s.heap.corpses page,
+      freed_pages others mid,
+      mid,
+      refl,
+      now,
+      Sweeps-there others mid refl (Sound-swept s mid (corpse_names s.heap.corpses page) now h),
+    )
 
 -- a sound state has a sweep of all pages
 pub SweepAll-there : (s : State) → Sound s → SweepAll s (freed_pages s.heap.unswept s) (swept_pages s.heap.unswept s)
@@ -90,6 +98,7 @@ SweepAll-there s h = Sweeps-there s.heap.unswept s refl h
 
 -- one more sweep
 pub Sweeps-more : (pages : ℕ) (s m t : State) (before now : List ℕ) → Sweeps pages s before m → Sweep1 m now t → Sweeps (suc pages) s (before ++ now) t
-Sweeps-more zero s m t before now (none, same) step = (now, [], t, (let e : before ++ now ≡ now = ap (λ xs. xs ++ now) none in e ∙ sym (append-nil now)), rw same at step, (refl, refl))
+Sweeps-more zero s m t before now (none, same) step =
+    (now, [], t, (let e : before ++ now ≡ now = ap (λ xs. xs ++ now) none in e ∙ sym (append-nil now)), rw same at step, (refl, refl))
 Sweeps-more (suc pages) s m t before now (first, later, mid, e, step1, rest) step =
     (first, later ++ now, mid, ap (λ xs. xs ++ now) e ∙ append_assoc first later now, step1, Sweeps-more pages mid m t later now rest step)

@@ -136,7 +136,8 @@ IsWord-hex zero = (refl, (refl, (refl, tt)))
 IsWord-hex (suc n) = subst IsWord (sym (hex-suc n)) (refl, (refl, IsWord-glyphs (digits_of 16 (suc n)) (all_below_base_digits_of 16 (suc n) (lit≤ tt))))
 
 pub hex_digits-value : (n : ℕ) → digits_value 16 (hex_digits n) ≡ n
-hex_digits-value n = digits_value_is 16 (hex_digits n) ∙ rw (values_back (digits_of 16 n) (all_below_base_digits_of 16 n (lit≤ tt))) (number_digits_of 16 n (lit≤ tt))
+hex_digits-value n = digits_value_is 16 (hex_digits n)
+    ∙ rw (values_back (digits_of 16 n) (all_below_base_digits_of 16 n (lit≤ tt))) (number_digits_of 16 n (lit≤ tt))
 
 read-hex : (n : ℕ) → read (hex n) ≡ Hexa n
 read-hex zero = refl
@@ -162,16 +163,22 @@ cut-word : (w bs part : List ℕ) (parts : List (List ℕ)) → IsWord w → cut
 cut-word [] bs part parts h e = e
 cut-word (b ∷ w) bs part parts h e = rw (h.0, cut-word w bs part parts h.1 e)
 
-fill-cut : (token : Token) (bs : List ℕ) (ws : List Token) → IsWord (token_text token) → (are_whole ws ≡ true → cut bs ≡ map token_text ws) → are_whole (fill token ws) ≡ true → cut (token_text token ++ bs) ≡ map token_text (fill token ws)
-fill-cut token bs (Raw [] ∷ ws) h e k = cut-word (token_text token) bs [] (map token_text ws) h (e (both (is_whole token) (are_whole ws) k).1) ∙ ap (λ w. w ∷ map token_text ws) (append-nil (token_text token))
+fill-cut : (token : Token) (bs : List ℕ) (ws : List Token) → IsWord (token_text token) → (are_whole ws ≡ true → cut bs ≡ map token_text ws) →
+    are_whole (fill token ws) ≡ true → cut (token_text token ++ bs) ≡ map token_text (fill token ws)
+fill-cut token bs (Raw [] ∷ ws) h e k =
+    cut-word (token_text token) bs [] (map token_text ws) h (e (both (is_whole token) (are_whole ws) k).1)
+    ∙ ap (λ w. w ∷ map token_text ws) (append-nil (token_text token))
 fill-cut token bs ws h e k = absurd (cc)
 
-lay-step : (b : ℕ) (word : Bool) (cs : List (List ℕ)) (ws : List Token) → (are_whole ws ≡ true → cs ≡ map token_text ws) → are_whole (if word then onto_token b ws else Raw [] ∷ Raw (b ∷ []) ∷ ws) ≡ true → (if word then onto_first b cs else [] ∷ (b ∷ []) ∷ cs) ≡ map token_text (if word then onto_token b ws else Raw [] ∷ Raw (b ∷ []) ∷ ws)
+lay-step : (b : ℕ) (word : Bool) (cs : List (List ℕ)) (ws : List Token) → (are_whole ws ≡ true → cs ≡ map token_text ws) →
+    are_whole (if word then onto_token b ws else Raw [] ∷ Raw (b ∷ []) ∷ ws) ≡ true →
+    (if word then onto_first b cs else [] ∷ (b ∷ []) ∷ cs) ≡ map token_text (if word then onto_token b ws else Raw [] ∷ Raw (b ∷ []) ∷ ws)
 lay-step b false cs ws e k = ap (λ l. [] ∷ (b ∷ []) ∷ l) (e k)
 lay-step b true cs (Raw w ∷ ws) e k = ap (onto_first b) (e k)
 lay-step b true cs ws e k = absurd (cc)
 
-lay-cut : (t bs : List ℕ) (ws : List Token) → (are_whole ws ≡ true → cut bs ≡ map token_text ws) → are_whole (lay t ws) ≡ true → cut (t ++ bs) ≡ map token_text (lay t ws)
+lay-cut : (t bs : List ℕ) (ws : List Token) → (are_whole ws ≡ true → cut bs ≡ map token_text ws) → are_whole (lay t ws) ≡ true →
+    cut (t ++ bs) ≡ map token_text (lay t ws)
 lay-cut [] bs ws e k = e k
 lay-cut (b ∷ t) bs ws e k = lay-step b (is_later_byte b) (cut (t ++ bs)) (lay t ws) (lay-cut t bs ws e) k
 
@@ -182,7 +189,8 @@ IsWord-ident (b ∷ t) h = (All-head (λ b. IsTrue (is_later_byte b)) b t h, IsW
 pieces-cut : (ps : List Piece) → IsSpelled ps → are_whole (shape ps) ≡ true → cut (text_of_pieces ps) ≡ map token_text (shape ps)
 pieces-cut [] h k = refl
 pieces-cut (Say t ∷ ps) h k = lay-cut t (text_of_pieces ps) (shape ps) (pieces-cut ps h) k
-pieces-cut (Number n ∷ ps) h k = fill-cut (Num n) (text_of_pieces ps) (shape ps) (IsWord-digits (decimal n) (decimal_is_IsNumeral n h.0).0.1) (pieces-cut ps h.1) k
+pieces-cut (Number n ∷ ps) h k =
+    fill-cut (Num n) (text_of_pieces ps) (shape ps) (IsWord-digits (decimal n) (decimal_is_IsNumeral n h.0).0.1) (pieces-cut ps h.1) k
 pieces-cut (Hex n ∷ ps) h k = fill-cut (Hexa n) (text_of_pieces ps) (shape ps) (IsWord-hex n) (pieces-cut ps h) k
 pieces-cut (Called l ∷ ps) h k = fill-cut (Raw l) (text_of_pieces ps) (shape ps) (IsWord-ident l h.0.later) (pieces-cut ps h.1) k
 
@@ -244,6 +252,7 @@ text-lf (b ∷ t) h = let e = both (if b == 10 then false else true) (has_no_lf 
 pub pieces-lf : (ps : List Piece) → IsSpelled ps → say_no_lf ps ≡ true → HasNoLf (text_of_pieces ps)
 pieces-lf [] h k = tt
 pieces-lf (Say t ∷ ps) h k = let e = both (has_no_lf t) (say_no_lf ps) k in HasNoLf-append t (text_of_pieces ps) (text-lf t e.0) (pieces-lf ps h e.1)
-pieces-lf (Number n ∷ ps) h k = HasNoLf-append (decimal n) (text_of_pieces ps) (IsWord-lf (decimal n) (IsWord-digits (decimal n) (decimal_is_IsNumeral n h.0).0.1)) (pieces-lf ps h.1 k)
+pieces-lf (Number n ∷ ps) h k =
+    HasNoLf-append (decimal n) (text_of_pieces ps) (IsWord-lf (decimal n) (IsWord-digits (decimal n) (decimal_is_IsNumeral n h.0).0.1)) (pieces-lf ps h.1 k)
 pieces-lf (Hex n ∷ ps) h k = HasNoLf-append (hex n) (text_of_pieces ps) (IsWord-lf (hex n) (IsWord-hex n)) (pieces-lf ps h k)
 pieces-lf (Called l ∷ ps) h k = HasNoLf-append l (text_of_pieces ps) (IsWord-lf l (IsWord-ident l h.0.later)) (pieces-lf ps h.1 k)

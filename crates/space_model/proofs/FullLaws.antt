@@ -1,6 +1,6 @@
 -- Where `new` answers `full`, the heap is really full for the pool of the object.
 use Rattle.std.proofs.Common.{◌≡◌, ◌≢◌, ◌⊎◌, ℕ, zero, suc, ◌/◌, ◌*◌, ◌+◌, ◌<◌, true, List, [], ◌∷◌, length, nat_eq, refl, sym, ap, ◌∙◌, subst, arith, Option, None, Some, ⊎_elim, inl, inr}
-use Rattle.std.specs.Prelude.{is_some, ◌^◌}
+use Rattle.std.specs.Prelude.{is_some, ◌^◌, ◌↔◌}
 use Rattle.std.specs.List.{IsDistinct}
 use Rattle.std.specs.Set.{is_member}
 use Rattle.std.specs.Ordering.{nat_cmp}
@@ -9,19 +9,31 @@ use Rattle.std.proofs.Math.Nat.{add_left_cancel, mul-div_cancel_left}
 use Rattle.std.proofs.lemmas.Bool.{false≢true, false_from_ne_true, or_cases, or_left, or_right, eqb-true, eq-eqb, cases_eq}
 use Rattle.std.proofs.lemmas.Nat.{pow_pos}
 use Rattle.space_model.specs.declared.event.Event.{Event}
+use Rattle.space_model.specs.declared.event.Kind.TheVariants.{Full}
+use Rattle.space_model.specs.declared.object.Guard.{Guard}
+use Rattle.space_model.specs.declared.object.Style.{Style}
 use Rattle.space_model.specs.declared.phase.Phase.TheVariants.{Idle}
+use Rattle.space_model.specs.declared.reply.Reply.{Reply}
+use Rattle.space_model.specs.declared.reply.Reply.TheVariants.{Made, NoMemory, Refused, Full as FullReply}
+use Rattle.space_model.specs.Collections.{CollectsAll}
 use Rattle.space_model.specs.Counts.{CountIs}
-use Rattle.space_model.specs.Layout.{slot_address, slot_bytes, page_slots, page_of, pool_for}
-use Rattle.space_model.specs.New.{MakesNone}
-use Rattle.space_model.specs.Pages.{pool_at, is_used}
-use Rattle.space_model.specs.Places.{IsPoolFull, HasNoSpare, StandsOn, FullAt}
-use Rattle.space_model.specs.Sound.{Sound, pool_of}
-use Rattle.space_model.specs.State.{State}
+use Rattle.space_model.specs.Layout.{page_bytes, slot_address, slot_bytes, page_slots, page_of, pool_for}
+use Rattle.space_model.specs.Idents.{IsIdent}
+use Rattle.space_model.specs.NewCommand.{Stage, stages_before_page, all_stages, PassesAll, MakesNone, AnswersNew}
+use Rattle.space_model.specs.FullHeap.{FullAt}
+use Rattle.space_model.specs.Pages.{pool_at, StandsOn, is_used}
+use Rattle.space_model.specs.Places.{pool_of, HasNoFreeAddress, HasNoSpare}
+use Rattle.space_model.specs.Reach.{Reach}
+use Rattle.space_model.specs.Roots.{root_value}
+use Rattle.space_model.specs.Sound.{Sound}
+use Rattle.space_model.specs.State.{State, is_present}
 use Rattle.space_model.proofs.Growing.{IsDistinct-cons}
+use Rattle.space_model.proofs.Leaving.{leaves_reach}
 use Rattle.space_model.proofs.PageLaws.{page_of-slot_address}
 use Rattle.space_model.proofs.ReachedLaws.{member-keys}
 use Rattle.space_model.proofs.SweepKept.{no_corpse}
-use Rattle.space_model.proofs.WholeLaws.{Sound-collects_all, counted_also, collects_leaves, collects_reach, collects_idle, collects_none_waits}
+use Rattle.space_model.proofs.Stages.{passed_leaves, passed_all}
+use Rattle.space_model.proofs.WholeLaws.{Sound-collects_all, counted_also, collects_leaves, leaves_collected, leaves_completed, collects_idle, collects_none_waits}
 
 -- slots up to a number, where each has a name of its own: the names at them are as many
 module _ (IsAt : ℕ → ℕ → Type 0) (one_slot : (i j n : ℕ) → IsAt i n → IsAt j n → i ≡ j) (one_name : (i m n : ℕ) → IsAt i m → IsAt i n → m ≡ n) where
@@ -60,7 +72,8 @@ same_address : (o : Option ℕ) (address : ℕ) → (o ≡ Some address) ⊎ (o 
 same_address None address = inr (λ e. cc)
 same_address (Some a) address = ⊎_elim (λ e. inl (ap Some e)) (λ d. inr (λ e. d (cc))) (cases_eq a address)
 
-standing_among : (place : FinMap nat_cmp ℕ) (address : ℕ) (names : List ℕ) → ((n : ℕ) × (get place n ≡ Some address)) ⊎ ((n : ℕ) → is_member nat_eq names n ≡ true → get place n ≢ Some address)
+standing_among : (place : FinMap nat_cmp ℕ) (address : ℕ) (names : List ℕ) →
+    ((n : ℕ) × (get place n ≡ Some address)) ⊎ ((n : ℕ) → is_member nat_eq names n ≡ true → get place n ≢ Some address)
 standing_among place address [] = inr (λ n m e. false≢true m)
 standing_among place address (name ∷ names) = ⊎_elim
     (λ e. inl (name, e))
@@ -82,45 +95,49 @@ slot_address-once : (page pool i j : ℕ) → slot_address page pool i ≡ slot_
 unfolding slot_address slot_bytes
 slot_address-once page pool i j e =
     let some : 0 < 40 * 2 ^ pool = (let p = pow_pos pool in omega arith) in
-    let f : 40 * 2 ^ pool * i ≡ 40 * 2 ^ pool * j = add_left_cancel (65536 * (page + 1)) e in
+    let f : 40 * 2 ^ pool * i ≡ 40 * 2 ^ pool * j = add_left_cancel (page_bytes * (page + 1)) e in
     sym (mul-div_cancel_left i some) ∙ ap (λ x. x / (40 * 2 ^ pool)) f ∙ mul-div_cancel_left j some
 
 -- a sound state in which nothing is under way, and no address is free for the pool
-module _ (t : State) (pool : ℕ) (h : Sound t) (none_waits : t.heap.unswept ≡ []) (idle : t.collector.phase ≡ Idle) (none_free : IsPoolFull t pool) where
+module _ (t : State) (pool : ℕ) (h : Sound t) (none_waits : t.heap.unswept ≡ []) (idle : t.collector.phase ≡ Idle) (none_free : HasNoFreeAddress t pool) where
   nothing_left : (n a : ℕ) → get t.heap.left n ≡ Some a → ⊥
-  nothing_left n a e = let f : None ≡ Some a = sym (get-empty nat_cmp n) ∙ ap (λ left. get left n) (sym h.left) ∙ e in cc
+  nothing_left n a e = let f : None ≡ Some a = sym (get-empty nat_cmp n) ∙ ap (λ left. get left n) (sym (h.resting (λ p. cc) (λ p. cc)).0) ∙ e in cc
 
-  slot_filled : (page slot : ℕ) → pool_at t.heap.pages page ≡ Some pool → slot < page_slots pool → (n : ℕ) × (get t.heap.place n ≡ Some (slot_address page pool slot))
+  slot_filled : (page slot : ℕ) → pool_at t.heap.pages page ≡ Some pool → slot < page_slots pool →
+      (n : ℕ) × (get t.heap.place n ≡ Some (slot_address page pool slot))
   slot_filled page slot has on = ⊎_elim
       (λ f. f)
       (λ none. absurd (none_free (slot_address page pool slot) (record {
         at = record { page = page; slot = slot; has_pool = has; on_page = on; is = refl };
         swept = ap (λ pages. is_member nat_eq pages (page_of (slot_address page pool slot))) none_waits;
         no_place = none;
-        no_corpse = λ n e. no_corpse t.graph t.heap.place t.heap.corpses t.collector.phase t.heap.pages t.heap.unswept h.corpses h.sweep (λ p. cc) n (slot_address page pool slot) e;
+        no_corpse = λ n e. no_corpse t.graph t.heap.place t.heap.corpses t.collector.phase t.heap.pages t.heap.unswept h.corpses h.sweep (λ p. cc) n
+            (slot_address page pool slot) e;
         not_left = λ n e. nothing_left n (slot_address page pool slot) e;
       })))
       (standing t.heap.place (slot_address page pool slot))
 
   -- what stands on a page of the pool is at one of its slots
-  at_slot : (page n : ℕ) → pool_at t.heap.pages page ≡ Some pool → StandsOn t page n → (slot : ℕ) × (slot < page_slots pool) × (get t.heap.place n ≡ Some (slot_address page pool slot))
-  at_slot page n has stands =
-      let slot = h.layout.placed.at n stands.address stands.at in
-      let on : slot.page ≡ page = sym (ap page_of slot.is ∙ page_of-slot_address slot.page (pool_of t.graph n) slot.slot slot.on_page) ∙ stands.on in
+  at_slot : (page n : ℕ) → pool_at t.heap.pages page ≡ Some pool → StandsOn t.heap.place page n →
+      (slot : ℕ) × (slot < page_slots pool) × (get t.heap.place n ≡ Some (slot_address page pool slot))
+  at_slot page n has (address, at, on_page) =
+      let slot = h.layout.placed.at n address at in
+      let on : slot.page ≡ page = sym (ap page_of slot.is ∙ page_of-slot_address slot.page (pool_of t.graph n) slot.slot slot.on_page) ∙ on_page in
       let both : Some (pool_of t.graph n) ≡ Some pool = sym slot.has_pool ∙ ap (pool_at t.heap.pages) on ∙ has in
       let same : pool_of t.graph n ≡ pool = cc in
-      let is : stands.address ≡ slot_address page pool slot.slot = slot.is ∙ ap (λ p. slot_address p (pool_of t.graph n) slot.slot) on ∙ ap (λ q. slot_address page q slot.slot) same in
-      (slot.slot, subst (λ q. slot.slot < page_slots q) same slot.on_page, stands.at ∙ ap Some is)
+      let is : address ≡ slot_address page pool slot.slot =
+      slot.is ∙ ap (λ p. slot_address p (pool_of t.graph n) slot.slot) on ∙ ap (λ q. slot_address page q slot.slot) same in
+      (slot.slot, subst (λ q. slot.slot < page_slots q) same slot.on_page, at ∙ ap Some is)
 
   -- as many objects stand on each page of the pool as it has slots
-  page_filled : (page : ℕ) → pool_at t.heap.pages page ≡ Some pool → CountIs (StandsOn t page) (page_slots pool)
+  page_filled : (page : ℕ) → pool_at t.heap.pages page ≡ Some pool → CountIs (StandsOn t.heap.place page) (page_slots pool)
   page_filled page has =
       counted_also
       (λ n. (slot : ℕ) × (slot < page_slots pool) × (get t.heap.place n ≡ Some (slot_address page pool slot)))
-      (StandsOn t page)
+      (StandsOn t.heap.place page)
       (page_slots pool)
       (λ n. (
-        (λ c. record { address = slot_address page pool c.0; at = c.2; on = page_of-slot_address page pool c.0 c.1 }),
+        (λ c. (slot_address page pool c.0, c.2, page_of-slot_address page pool c.0 c.1)),
         (λ stands. at_slot page n has stands),
       ))
       (count_slots
@@ -141,18 +158,58 @@ module _ (t : State) (pool : ℕ) (h : Sound t) (none_waits : t.heap.unswept ≡
       has_pool None e = absurd (none_spare page (below, e))
       has_pool (Some q) e = ap is_some e
 
+-- what is reached after a whole collection is what was reached after the completion before it
+vain_reach : (s t : State) (events : List Event) (scans : ℕ) (c : CollectsAll s Full events scans t) (n : ℕ) → Reach t n ↔ Reach c.collects.idle n
+vain_reach s t events scans c n =
+    let now = leaves_reach s events t (leaves_collected s t Full events scans c) n in
+    let then = leaves_reach s c.collects.completion c.collects.idle (leaves_completed s c.collects.idle c.collects.completion c.collects.completes) n in
+    ((λ r. then.1 (now.0 r)), (λ r. now.1 (then.0 r)))
+
 -- so the answer `full` tells the truth
 pub full_is_full : (s t : State) (fields : ℕ) (events : List Event) → MakesNone s fields events t → Sound s → FullAt t (pool_for fields)
 full_is_full s t fields events e h =
-    let c = e.collected in
-    let sound = Sound-collects_all s t events c.scans c.collects h in
-    let idle = collects_idle s t events c.scans c.collects in
-    let none_waits = collects_none_waits s t events c.scans c.collects in
+    let c = passed_all s (pool_for fields) events t e.passed in
+    let sound = Sound-collects_all s t Full c.told c.scans c.collects h in
+    let idle = collects_idle s t Full c.told c.scans c.collects in
+    let none_waits = collects_none_waits s t Full c.told c.scans c.collects in
     record {
-      reached = λ n. let there = collects_leaves s t events c.scans c.collects h n in
-          let same = collects_reach s t events c.scans c.collects n in
+      reached = λ n. let there = collects_leaves s t c.told c.scans c.collects h n in
+          let same = vain_reach s t c.told c.scans c.collects n in
           ((λ p. same.1 (there.0 p)), (λ r. there.1 (same.0 r)));
-      limit = e.limit.limit;
-      used = page_used t (pool_for fields) sound none_waits idle e.limit.none_free e.limit.none_spare;
-      filled = page_filled t (pool_for fields) sound none_waits idle e.limit.none_free;
+      limit = e.limit;
+      used = page_used t (pool_for fields) sound none_waits idle c.none_free c.none_spare;
+      filled = page_filled t (pool_for fields) sound none_waits idle c.none_free;
     }
+
+-- and nothing is present then but what was reached before
+pub full_leaves : (s t : State) (fields : ℕ) (events : List Event) → MakesNone s fields events t → Sound s → (n : ℕ) → is_present t n ≡ true → Reach s n
+full_leaves s t fields events e h n p =
+    let c = passed_all s (pool_for fields) events t e.passed in
+    let idle = (collects_leaves s t c.told c.scans c.collects h n).0 p in
+    (leaves_reach s c.collects.collects.completion c.collects.collects.idle
+    (leaves_completed s c.collects.collects.idle c.collects.collects.completion c.collects.collects.completes) n).0 idle
+
+-- where no object is made, nothing of the graph, of the stack and of the roots is changed
+same_parts : (s t : State) → t.graph ≡ s.graph → t.roots ≡ s.roots → t.stack ≡ s.stack →
+    (t.graph ≡ s.graph) × (t.stack ≡ s.stack) × ((other : List ℕ) → IsIdent other → root_value t.roots other ≡ root_value s.roots other)
+same_parts s t graph roots stack = (graph, stack, λ other ident. ap (λ roots. root_value roots other) roots)
+
+same_state : (s t : State) → t ≡ s →
+    (t.graph ≡ s.graph) × (t.stack ≡ s.stack) × ((other : List ℕ) → IsIdent other → root_value t.roots other ≡ root_value s.roots other)
+same_state s t same = same_parts s t (ap (λ (u : State). u.graph) same) (ap (λ (u : State). u.roots) same) (ap (λ (u : State). u.stack) same)
+
+passed_same : (stages : List Stage) (s : State) (pool : ℕ) (events : List Event) (t : State) → PassesAll stages s pool events t →
+    (t.graph ≡ s.graph) × (t.stack ≡ s.stack) × ((other : List ℕ) → IsIdent other → root_value t.roots other ≡ root_value s.roots other)
+passed_same stages s pool events t passed = let left = passed_leaves stages s pool events t passed in same_parts s t left.graph left.roots left.stack
+
+pub makes_none_same : (s t : State) (root : List ℕ) (fields : ℕ) (guard : Guard) (style : Style) (events : List Event) (reply : Reply) →
+    AnswersNew s root fields guard style events reply t → ((name address : ℕ) → reply ≢ Made name address) →
+    (t.graph ≡ s.graph) × (t.stack ≡ s.stack) × ((other : List ℕ) → IsIdent other → root_value t.roots other ≡ root_value s.roots other)
+makes_none_same s t root fields guard style events (Made name address) e none = absurd (none name address refl)
+makes_none_same s t root fields guard style events FullReply e none = passed_same all_stages s (pool_for fields) events t e.passed
+makes_none_same s t root fields guard style events NoMemory e none = ⊎_elim
+    (λ lacks. same_state s t lacks.unchanged)
+    (λ lacks. passed_same stages_before_page s (pool_for fields) events t lacks.passed)
+    e.1
+makes_none_same s t root fields guard style events (Refused why) e none = same_state s t e.3
+makes_none_same s t root fields guard style events _ e none = absurd e

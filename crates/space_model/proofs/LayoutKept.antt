@@ -1,4 +1,4 @@
--- A birth and a store keep the layout.
+-- A new object keeps the layout.
 use Rattle.std.proofs.Common.{◌≡◌, ◌≢◌, ◌⊎◌, ℕ, ◌+◌, ◌<◌, ◌≤◌, List, [], ◌∷◌, ◌++◌, length, ap, ◌∙◌, sym, subst, arith, Option, None, Some, ⊎_elim, inl, inr}
 use Rattle.std.specs.Ordering.{nat_cmp}
 use Rattle.std.specs.FinMap.{FinMap, get, insert}
@@ -11,15 +11,16 @@ use Rattle.space_model.specs.declared.object.Style.{Style}
 use Rattle.space_model.specs.declared.value.Value.TheVariants.{Nil}
 use Rattle.space_model.specs.Graph.{Item}
 use Rattle.space_model.specs.Layout.{page_of, pool_for, slot_address, page_slots, slot_bytes}
-use Rattle.space_model.specs.New.{IsBirthPlace}
+use Rattle.space_model.specs.NewCommand.{Stage, FreeAddress, FreshPage, Collection, Finds}
 use Rattle.space_model.specs.Pages.{pool_at, with_pool}
 use Rattle.space_model.specs.Pieces.{new_item}
-use Rattle.space_model.specs.Sound.{pool_of, IsSlotOf, AreSlots, SoundLayout}
+use Rattle.space_model.specs.Places.{pool_of, IsSlot, IsFreshPage}
+use Rattle.space_model.specs.Sound.{AreSlots, SoundLayout}
 use Rattle.space_model.specs.State.{State}
 use Rattle.space_model.proofs.PageLaws.{pool_at-with_pool, length-with_pool, page_of-slot_address}
 use Rattle.space_model.proofs.SlotLaws.{item_of-push, item_of-new, held_pool, AreSlots-same, AreSlots-insert}
 
--- an address where an object may be born
+-- an address where an object may be allocated
 pub record IsFreshSlot (s : State) (pool address : ℕ) : Type 0 where
   pub slot : ℕ
   pub below : page_of address ≤ length s.heap.pages
@@ -40,7 +41,8 @@ past : (pages : List (Option ℕ)) → pool_at pages (length pages) ≡ None
 past pages = grind (arith, common_steps)
 
 -- the first slot of a page without a pool
-on_page : (s : State) (pool page address : ℕ) → 0 < page_slots pool → page ≤ length s.heap.pages → page < s.heap.limit → pool_at s.heap.pages page ≡ None → address ≡ slot_address page pool 0 → AreSlots s.graph s.heap.pages s.heap.place → IsFreshSlot s pool address
+on_page : (s : State) (pool page address : ℕ) → 0 < page_slots pool → page ≤ length s.heap.pages → page < s.heap.limit → pool_at s.heap.pages page ≡ None →
+    address ≡ slot_address page pool 0 → AreSlots s.graph s.heap.pages s.heap.place → IsFreshSlot s pool address
 on_page s pool page address has below limited none is placed =
     let on : page_of address ≡ page = ap page_of is ∙ page_of-slot_address page pool 0 has in
     record {
@@ -57,10 +59,10 @@ on_page s pool page address has below limited none is placed =
           let f : None ≡ Some (pool_of s.graph name) = sym none ∙ taken in cc;
     }
 
--- the place of a birth is fresh
-pub fresh_slot : (s : State) (fields address : ℕ) → SoundLayout s.graph s.heap.place s.heap.pages s.heap.limit → IsBirthPlace s (pool_for fields) address → IsFreshSlot s (pool_for fields) address
-fresh_slot s fields address h = ⊎_elim
-    (λ new.
+-- the address that a stage finds is fresh
+pub fresh_slot : (s : State) (fields address : ℕ) (stage : Stage) → SoundLayout s.graph s.heap.place s.heap.pages s.heap.limit →
+    Finds stage s (pool_for fields) address → IsFreshSlot s (pool_for fields) address
+fresh_slot s fields address FreeAddress h new =
     let at = new.free.at in
     let on : page_of address ≡ at.page = ap page_of at.is ∙ page_of-slot_address at.page (pool_for fields) at.slot at.on_page in
     let here = within s.heap.pages at.page (pool_for fields) at.has_pool in
@@ -73,26 +75,47 @@ fresh_slot s fields address h = ⊎_elim
       on_page = at.on_page;
       is = at.is ∙ ap (λ page. slot_address page (pool_for fields) at.slot) (sym on);
       no_place = new.free.no_place;
-    })
-    (λ fresh. ⊎_elim
-    (λ (spare, least). let limited = h.limited in let below = spare.0 in on_page s (pool_for fields) fresh.page address (has_slot fields) (omega arith) (omega arith) spare.1 fresh.is h.placed)
-    (λ (none, next, below). on_page s (pool_for fields) fresh.page address (has_slot fields) (omega arith) below (ap (pool_at s.heap.pages) next ∙ past s.heap.pages) fresh.is h.placed)
-    fresh.fresh)
+    }
+fresh_slot s fields address FreshPage h (page, fresh, is) = ⊎_elim
+    (λ (spare, least). let limited = h.limited in let below = spare.0 in
+    on_page s (pool_for fields) page address (has_slot fields) (omega arith) (omega arith) spare.1 is h.placed)
+    (λ (none, next, below). on_page s (pool_for fields) page address (has_slot fields) (omega arith) below
+    (ap (pool_at s.heap.pages) next ∙ past s.heap.pages) is h.placed)
+    fresh
+fresh_slot s fields address Collection h found = absurd found
 
--- no corpse lies at the place of a birth
-pub fresh_corpse : (s : State) (fields address : ℕ) → AreSlots s.graph s.heap.pages s.heap.corpses → IsBirthPlace s (pool_for fields) address → (name : ℕ) → get s.heap.corpses name ≢ Some address
-fresh_corpse s fields address buried h name e = ⊎_elim
-    (λ new. new.free.no_corpse name e)
-    (λ fresh.
-    let on : page_of address ≡ fresh.page = ap page_of fresh.is ∙ page_of-slot_address fresh.page (pool_for fields) 0 (has_slot fields) in
-    let has : pool_at s.heap.pages fresh.page ≡ Some (pool_of s.graph name) = ap (pool_at s.heap.pages) (sym on) ∙ held_pool s.graph s.heap.pages name address (buried.at name address e) in
-    ⊎_elim
-    (λ (spare, least). let f : None ≡ Some (pool_of s.graph name) = sym spare.1 ∙ has in cc)
-    (λ (none, next, below). let f : None ≡ Some (pool_of s.graph name) = sym (ap (pool_at s.heap.pages) next ∙ past s.heap.pages) ∙ has in cc)
-    fresh.fresh)
-    h
+-- a page that gets a pool has none before
+no_pool : (s : State) (page : ℕ) → IsFreshPage s page → pool_at s.heap.pages page ≡ None
+no_pool s page fresh = ⊎_elim
+    (λ (spare, least). spare.1)
+    (λ (none, next, below). ap (pool_at s.heap.pages) next ∙ past s.heap.pages)
+    fresh
 
-module _ (s : State) (root : List ℕ) (fields : ℕ) (guard : Guard) (style : Style) (address : ℕ) (h : SoundLayout s.graph s.heap.place s.heap.pages s.heap.limit) (f : IsFreshSlot s (pool_for fields) address) where
+-- the address of a slot of a page without a pool is that of no name
+pub none_on_fresh : (s : State) (map : FinMap nat_cmp ℕ) (fields page address : ℕ) → AreSlots s.graph s.heap.pages map → IsFreshPage s page →
+    address ≡ slot_address page (pool_for fields) 0 → (name : ℕ) → get map name ≢ Some address
+none_on_fresh s map fields page address slots fresh is name e =
+    let on : page_of address ≡ page = ap page_of is ∙ page_of-slot_address page (pool_for fields) 0 (has_slot fields) in
+    let has : pool_at s.heap.pages page ≡ Some (pool_of s.graph name) =
+    ap (pool_at s.heap.pages) (sym on) ∙ held_pool s.graph s.heap.pages name address (slots.at name address e) in
+    let f : None ≡ Some (pool_of s.graph name) = sym (no_pool s page fresh) ∙ has in cc
+
+-- no corpse lies at the address that a stage finds
+pub fresh_corpse : (s : State) (fields address : ℕ) (stage : Stage) → AreSlots s.graph s.heap.pages s.heap.corpses → Finds stage s (pool_for fields) address →
+    (name : ℕ) → get s.heap.corpses name ≢ Some address
+fresh_corpse s fields address FreeAddress slots new name e = new.free.no_corpse name e
+fresh_corpse s fields address FreshPage slots (page, fresh, is) name e = none_on_fresh s s.heap.corpses fields page address slots fresh is name e
+fresh_corpse s fields address Collection slots found name e = absurd found
+
+-- and no object left it
+pub fresh_left : (s : State) (fields address : ℕ) (stage : Stage) → AreSlots s.graph s.heap.pages s.heap.left → Finds stage s (pool_for fields) address →
+    (name : ℕ) → get s.heap.left name ≢ Some address
+fresh_left s fields address FreeAddress slots new name e = new.free.not_left name e
+fresh_left s fields address FreshPage slots (page, fresh, is) name e = none_on_fresh s s.heap.left fields page address slots fresh is name e
+fresh_left s fields address Collection slots found name e = absurd found
+
+module _ (s : State) (root : List ℕ) (fields : ℕ) (guard : Guard) (style : Style) (address : ℕ)
+    (h : SoundLayout s.graph s.heap.place s.heap.pages s.heap.limit) (f : IsFreshSlot s (pool_for fields) address) where
   abbrev graph' : List Item
   graph' = s.graph ++ new_item guard style fields ∷ []
 
@@ -102,7 +125,8 @@ module _ (s : State) (root : List ℕ) (fields : ℕ) (guard : Guard) (style : S
   longer : length s.graph + 1 ≤ length graph'
   longer = let l = length-append s.graph (new_item guard style fields ∷ []) in omega arith
 
-  pools : (map : FinMap nat_cmp ℕ) → AreSlots s.graph s.heap.pages map → (n a : ℕ) → get map n ≡ Some a → pool_at pages' (page_of a) ≡ pool_at s.heap.pages (page_of a)
+  pools : (map : FinMap nat_cmp ℕ) → AreSlots s.graph s.heap.pages map → (n a : ℕ) → get map n ≡ Some a →
+      pool_at pages' (page_of a) ≡ pool_at s.heap.pages (page_of a)
   pools map m n a e =
       let p = pool_at-with_pool s.heap.pages (page_of address) (pool_for fields) (page_of a) f.below in
       let k = held_pool s.graph s.heap.pages n a (m.at n a e) in
@@ -114,11 +138,13 @@ module _ (s : State) (root : List ℕ) (fields : ℕ) (guard : Guard) (style : S
 
   -- a map stays one of slots
   pub slots_stay : (map : FinMap nat_cmp ℕ) → AreSlots s.graph s.heap.pages map → AreSlots graph' pages' map
-  slots_stay map m = AreSlots-same s.graph graph' s.heap.pages pages' map (let l = longer in omega arith) (λ n a b. ap (λ (item : Item). pool_for (length item.values)) (item_of-push s.graph (new_item guard style fields) n a b)) (pools map m) m
+  slots_stay map m = AreSlots-same s.graph graph' s.heap.pages pages' map (let l = longer in omega arith)
+      (λ n a b. ap (λ (item : Item). pool_for (length item.values)) (item_of-push s.graph (new_item guard style fields) n a b)) (pools map m) m
 
-  new_slot : IsSlotOf graph' pages' (length s.graph + 1) address
+  new_slot : IsSlot pages' (pool_of graph' (length s.graph + 1)) address
   new_slot =
-      let e : pool_of graph' (length s.graph + 1) ≡ pool_for fields = ap (λ (item : Item). pool_for (length item.values)) (item_of-new s.graph (new_item guard style fields)) ∙ ap pool_for (length-replicate fields Nil) in
+      let e : pool_of graph' (length s.graph + 1) ≡ pool_for fields =
+      ap (λ (item : Item). pool_for (length item.values)) (item_of-new s.graph (new_item guard style fields)) ∙ ap pool_for (length-replicate fields Nil) in
       let p = pool_at-with_pool s.heap.pages (page_of address) (pool_for fields) (page_of address) f.below in
       let here : pool_at pages' (page_of address) ≡ Some (pool_for fields) = grind (arith, nat_tests, p) in
       record {
@@ -131,6 +157,7 @@ module _ (s : State) (root : List ℕ) (fields : ℕ) (guard : Guard) (style : S
 
   pub SoundLayout-born : SoundLayout graph' (insert s.heap.place (length s.graph + 1) address) pages' s.heap.limit
   SoundLayout-born = record {
-    placed = AreSlots-insert graph' pages' s.heap.place (length s.graph + 1) address (omega arith) longer new_slot f.no_place (slots_stay s.heap.place h.placed);
+    placed = AreSlots-insert graph' pages' s.heap.place (length s.graph + 1) address (omega arith) longer new_slot f.no_place
+        (slots_stay s.heap.place h.placed);
     limited = length-with_pool s.heap.pages (page_of address) (pool_for fields) s.heap.limit f.limited h.limited f.below;
   }

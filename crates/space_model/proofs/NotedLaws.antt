@@ -7,7 +7,7 @@ use Rattle.std.proofs.lemmas.List.Folds.{list_any-append}
 use Rattle.space_model.specs.State.{State}
 use Rattle.space_model.specs.Reached.{reached_names}
 use Rattle.space_model.specs.Sound.{SoundMoments}
-use Rattle.space_model.specs.Moments.{parents_of_young, with_names, noted, SameMoments}
+use Rattle.space_model.specs.Moments.{mixed_names, with_names, noted, SameMoments}
 use Rattle.space_model.proofs.Growing.{IsDistinct-cons}
 use Rattle.space_model.proofs.Members.{member_filter}
 use Rattle.space_model.proofs.ReachedLaws.{member-reached_names, reached_names-once}
@@ -31,8 +31,9 @@ with_names-same more names h = ap (λ xs. xs ++ names) (none_left (λ n. not (is
 
 pub noted-same : (s : State) → SoundMoments s → noted s ≡ s
 noted-same s h =
-    let a : with_names (reached_names s) s.history.seen ≡ s.history.seen = with_names-same (reached_names s) s.history.seen (λ n m. h.seen n ((member-reached_names s n).0 m)) in
-    let b : with_names (parents_of_young s) s.history.mixed ≡ s.history.mixed = with_names-same (parents_of_young s) s.history.mixed h.mixed in
+    let a : with_names (reached_names s) s.history.seen ≡ s.history.seen =
+    with_names-same (reached_names s) s.history.seen (λ n m. h.seen n ((member-reached_names s n).0 m)) in
+    let b : with_names (mixed_names s) s.history.mixed ≡ s.history.mixed = with_names-same (mixed_names s) s.history.mixed h.mixed in
     λ i. record s { history = record s.history { seen = a i; mixed = b i } }
 
 -- new names before a list of names, each once
@@ -55,7 +56,7 @@ pub SoundMoments-noted : (s : State) → IsDistinct nat_eq s.history.seen → So
 SoundMoments-noted s once = record {
   seen = λ n r. member-with_names (reached_names s) s.history.seen n ∙ or_left _ _ ((member-reached_names s n).1 r);
   once = IsDistinct-with_names (reached_names s) s.history.seen (reached_names-once s) once;
-  mixed = λ n m. member-with_names (parents_of_young s) s.history.mixed n ∙ or_left _ _ m;
+  mixed = λ n m. member-with_names (mixed_names s) s.history.mixed n ∙ or_left _ _ m;
 }
 
 SoundMoments-same : (s t : State) → SameMoments s t → SoundMoments s → SoundMoments t

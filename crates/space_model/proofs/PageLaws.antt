@@ -16,12 +16,14 @@ use Rattle.space_model.specs.Pages.{pool_at, with_pool, pool_pages, is_on, is_us
 use Rattle.space_model.proofs.Members.{member_filter}
 use Rattle.space_model.proofs.ReachedLaws.{member-keys}
 
-pub pool_at-with_pool : (pages : List (Option ℕ)) (page pool q : ℕ) → page ≤ length pages → pool_at (with_pool pages page pool) q ≡ cond (nat_eq q page) (Some pool) (pool_at pages q)
+pub pool_at-with_pool : (pages : List (Option ℕ)) (page pool q : ℕ) → page ≤ length pages →
+    pool_at (with_pool pages page pool) q ≡ cond (nat_eq q page) (Some pool) (pool_at pages q)
 unfolding with_pool
 pool_at-with_pool pages page pool q h = grind (arith, nat_tests, common_steps)
 
 -- a page of its own has its pool written, and the next page makes one more
-pub length-with_pool : (pages : List (Option ℕ)) (page pool limit : ℕ) → page < limit → length pages ≤ limit → page ≤ length pages → length (with_pool pages page pool) ≤ limit
+pub length-with_pool : (pages : List (Option ℕ)) (page pool limit : ℕ) → page < limit → length pages ≤ limit → page ≤ length pages →
+    length (with_pool pages page pool) ≤ limit
 unfolding with_pool
 length-with_pool pages page pool limit below long at = grind (arith, nat_tests, common_steps)
 
@@ -46,7 +48,8 @@ member-pool_pages pages page =
     (cases_Bool (is_some (pool_at pages page)))
 
 rising-range : (a n : ℕ) → AllPairs (λ x y. x < y) (range_with_len a n)
-rising-range a n = λ i j d l m. let k = length-range_with_len a n in let x = get_or-range_with_len a n i d (omega arith) in let y = get_or-range_with_len a n j d (omega arith) in omega arith
+rising-range a n = λ i j d l m. let k = length-range_with_len a n in let x = get_or-range_with_len a n i d (omega arith) in let y =
+    get_or-range_with_len a n j d (omega arith) in omega arith
 
 pub rising-pool_pages : (pages : List (Option ℕ)) → AllPairs (λ x y. x < y) (pool_pages pages)
 unfolding pool_pages
@@ -78,10 +81,12 @@ pub used_by : (place : FinMap nat_cmp ℕ) (page n a : ℕ) → get place n ≡ 
 used_by place page n a e q = ap (is_used place) (sym q) ∙ used place n a e
 
 -- a page on which nothing stands becomes spare, and no other page changes
-pub pool_at-spared : (place : FinMap nat_cmp ℕ) (page : ℕ) (pages : List (Option ℕ)) (q : ℕ) → (pool_at (spared place page pages) q ≡ pool_at pages q) ⊎ ((q ≡ page) × (is_used place page ≡ false))
+pub pool_at-spared : (place : FinMap nat_cmp ℕ) (page : ℕ) (pages : List (Option ℕ)) (q : ℕ) →
+    (pool_at (spared place page pages) q ≡ pool_at pages q) ⊎ ((q ≡ page) × (is_used place page ≡ false))
 pool_at-spared place page pages q = ⊎_elim
     (λ u. inl (ap (λ b. pool_at (cond b pages (set pages page None)) q) u))
-    (λ u. ⊎_elim (λ e. inr (e, u)) (λ d. inl (ap (λ b. pool_at (cond b pages (set pages page None)) q) u ∙ get_or-set_other pages page q None None d)) (cases_eq q page))
+    (λ u. ⊎_elim (λ e. inr (e, u)) (λ d. inl (ap (λ b. pool_at (cond b pages (set pages page None)) q) u ∙ get_or-set_other pages page q None None d))
+    (cases_eq q page))
     (cases_Bool (is_used place page))
 
 bare : (pages : List (Option ℕ)) (q : ℕ) → pool_at (set pages q None) q ≡ None
@@ -89,7 +94,8 @@ bare [] q = refl
 bare (x ∷ pages) zero = refl
 bare (x ∷ pages) (suc q) = bare pages q
 
-pub pool_at-spared_page : (place : FinMap nat_cmp ℕ) (page : ℕ) (pages : List (Option ℕ)) → pool_at (spared place page pages) page ≡ cond (is_used place page) (pool_at pages page) None
+pub pool_at-spared_page : (place : FinMap nat_cmp ℕ) (page : ℕ) (pages : List (Option ℕ)) →
+    pool_at (spared place page pages) page ≡ cond (is_used place page) (pool_at pages page) None
 pool_at-spared_page place page pages = ⊎_elim
     (λ t. ap (λ b. pool_at (cond b pages (set pages page None)) page) t ∙ sym (ap (λ b. cond b (pool_at pages page) None) t))
     (λ f. ap (λ b. pool_at (cond b pages (set pages page None)) page) f ∙ bare pages page ∙ sym (ap (λ b. cond b (pool_at pages page) None) f))

@@ -1,211 +1,216 @@
 -- What a command does to where objects stand: what is reached is present and stays, and what goes is told.
-use Rattle.std.proofs.Common.{◌≡◌, ℕ, ◌+◌, cond, true, false, List, [], ◌∷◌, ◌++◌, length, map, subst, nat_eq, refl, sym, ap, ◌∙◌, arith, ⊎_elim, Option, None, Some, Result, Ok, Err}
+use Rattle.std.proofs.Common.{◌≡◌, ℕ, ◌+◌, ◌≤◌, Bool, cond, true, false, List, [], ◌∷◌, ◌++◌, length, map, subst, nat_eq, refl, sym, ap, ◌∙◌, arith, ⊎_elim, Option, None, Some}
 use Rattle.std.specs.Prelude.{is_some, ◌↔◌}
+use Rattle.std.specs.List.{IsDistinct}
 use Rattle.std.specs.Set.{is_member}
 use Rattle.std.specs.FinMap.{get}
 use Rattle.std.proofs.lemmas.Bool.{ne_eqb, cond-true, cond-false, false≢true, false_from_ne_true, true_from_ne_false}
 use Rattle.space_model.specs.declared.command.Command.{Command}
-use Rattle.space_model.specs.declared.command.Command.TheVariants.{New, Set, DropRoot, Push, Raw, Pop, Store, Load, Same, Gc}
+use Rattle.space_model.specs.declared.command.Command.TheVariants.{New, Gc}
 use Rattle.space_model.specs.declared.event.Event.{Event}
-use Rattle.space_model.specs.declared.event.Event.TheVariants.{Gone, Verdict}
 use Rattle.space_model.specs.declared.event.Kind.{Kind}
 use Rattle.space_model.specs.declared.event.Kind.TheVariants.{Full as FullKind}
 use Rattle.space_model.specs.declared.object.Guard.{Guard}
 use Rattle.space_model.specs.declared.object.Style.{Style}
-use Rattle.space_model.specs.declared.reply.Refusal.{Refusal}
 use Rattle.space_model.specs.declared.reply.Reply.{Reply}
 use Rattle.space_model.specs.declared.reply.Reply.TheVariants.{Made, Full, NoMemory, Scanned, Refused}
-use Rattle.space_model.specs.declared.value.Value.{Value}
-use Rattle.space_model.specs.Answers.{WritesRoot, SetReply, DropReply, LoadReply, StoreReply, field_value, written_field}
+use Rattle.space_model.specs.Collections.{Collects}
+use Rattle.space_model.specs.Given.{IsGiven}
 use Rattle.space_model.specs.Graph.{IsChild}
-use Rattle.space_model.specs.Lawful.{Effects, Lawful}
+use Rattle.space_model.specs.Lawful.{Replies, Effects, Lawful}
 use Rattle.space_model.specs.Layout.{pool_for}
-use Rattle.space_model.specs.New.{IsReady, News}
-use Rattle.space_model.specs.Operands.{operand_value, input_value}
-use Rattle.space_model.specs.Maps.{IsRising, without}
-use Rattle.space_model.specs.Outputs.{Output, Told, Replied, gone_of, gone_in}
+use Rattle.space_model.specs.Maps.{without}
+use Rattle.space_model.specs.NewCommand.{stages_before_page, all_stages, AnswersNew}
+use Rattle.space_model.specs.Outputs.{Output, Told, Replied, gone_in}
 use Rattle.space_model.specs.Pieces.{Born}
 use Rattle.space_model.specs.Reach.{IsStart, Reach}
-use Rattle.space_model.specs.Roots.{root_value}
 use Rattle.space_model.specs.Sound.{Sound}
-use Rattle.space_model.specs.StackAnswers.{Raws, PushReply, Pops}
-use Rattle.space_model.specs.State.{State, is_present}
-use Rattle.space_model.specs.WholeCollections.{CollectsAll, Collects}
+use Rattle.space_model.specs.State.{State, Heap, is_present}
+use Rattle.space_model.specs.ToldInOrder.{AreToldInOrder}
+use Rattle.space_model.proofs.Leaving.{Leaves}
 use Rattle.space_model.proofs.MapLaws.{get-insert_name, get-without, some_get}
 use Rattle.space_model.proofs.Reaching.{IsReached-least}
-use Rattle.space_model.proofs.WholeLaws.{collects_events, marked_place, marked_reached, collects_place, collects_keeps}
+use Rattle.space_model.proofs.RepliedPieces.{IsPiece, Nothing, Root, Dropped, Stack, Field, replied_piece}
+use Rattle.space_model.proofs.Stages.{passed_leaves}
+use Rattle.space_model.proofs.ToldNames.{gone_among, gone_outputs, AreToldInOrder-append}
+use Rattle.space_model.proofs.WholeLaws.{leaves_collected}
 
 pub reached_present : (s : State) → Sound s → (n : ℕ) → Reach s n → is_present s n ≡ true
 reached_present s h = IsReached-least (IsChild s.graph) (IsStart s) (λ n. is_present s n ≡ true)
     (λ m n p c. h.names.children_present m n p c)
     (λ n start. ⊎_elim (λ r. h.names.roots_present n r) (λ (word, m, at). ap is_some at) start)
 
--- the names that events tell to be gone
-abbrev gone_among : List Event → List ℕ
-gone_among [] = []
-gone_among (event ∷ events) = gone_of event ++ gone_among events
-
-gone_outputs : (events : List Event) (reply : Reply) → gone_in (map Told events ++ Replied reply ∷ []) ≡ gone_among events
-gone_outputs [] reply = refl
-gone_outputs (event ∷ events) reply = ap (λ names. gone_of event ++ names) (gone_outputs events reply)
-
-gone_verdict : (kind : Kind) (count : ℕ) (taken : List ℕ) → gone_among (map Gone taken ++ Verdict kind count ∷ []) ≡ taken
-gone_verdict kind count [] = refl
-gone_verdict kind count (name ∷ taken) = ap (λ names. name ∷ names) (gone_verdict kind count taken)
-
--- names that aren't reached go and are told; each other one that was present stays where it stood
+-- names that aren't reached go and are told; each other one that was allocated stands where it stood, if it was present; and the limit stays
 record PlacesAfter (s : State) (events : List Event) (t : State) : Type 0 where
   taken : List ℕ
   told : gone_among events ≡ taken
-  there : (n : ℕ) → is_member nat_eq taken n ≡ true → is_present s n ≡ true
+  present : (n : ℕ) → is_member nat_eq taken n ≡ true → is_present s n ≡ true
   unreached : (n : ℕ) → is_member nat_eq taken n ≡ true → Reach s n → ⊥
-  rising : IsRising s.heap.place taken
-  place : (n : ℕ) → is_present s n ≡ true → get t.heap.place n ≡ get (without s.heap.place taken) n
+  order : AreToldInOrder s.heap.place [] (map Told events)
+  once : IsDistinct nat_eq taken
+  place : (n : ℕ) → n ≤ length s.graph → get t.heap.place n ≡ get (without s.heap.place taken) n
+  limit : t.heap.limit ≡ s.heap.limit
 
-none_rise : (s : State) → IsRising s.heap.place []
-none_rise s i j d l m = absurd (omega arith)
-
--- where nothing goes
-same_after : (s t : State) (events : List Event) → events ≡ [] → t.heap.place ≡ s.heap.place → PlacesAfter s events t
-same_after s t events none e = record {
-  taken = [];
-  told = ap gone_among none;
-  there = λ n m. absurd (false≢true m);
-  unreached = λ n m r. false≢true m;
-  rising = none_rise s;
-  place = λ n p. ap (λ place. get place n) e ∙ sym (get-without s.heap.place [] n);
+-- after work of the collector
+worked : (s t : State) (events : List Event) → Leaves s events t → PlacesAfter s events t
+worked s t events h = record {
+  taken = h.taken;
+  told = h.told;
+  present = h.present;
+  unreached = h.unreached;
+  order = h.order;
+  once = h.once;
+  place = λ n p. h.place n;
+  limit = h.limit;
 }
 
-collects_after : (s t : State) (events : List Event) (scans : ℕ) → CollectsAll s events scans t → PlacesAfter s events t
-collects_after s t events scans c =
-    let marked = marked_place s t events scans c in
-    let verdict = c.collects.verdict in
-    record {
-      taken = c.collects.taken;
-      told = ap gone_among (collects_events s t events scans c) ∙ gone_verdict FullKind (length c.collects.taken) c.collects.taken;
-      there = λ n m. subst (λ place. is_some (get place n) ≡ true) marked (verdict.present n m);
-      unreached = λ n m r. verdict.unreached n m (marked_reached s t events scans c n r);
-      rising = subst (λ place. IsRising place c.collects.taken) marked verdict.rising;
-      place = λ n p. ap (λ place. get place n) (collects_place s t events scans c);
-    }
+-- the heap of t is that of s
+abbrev SameHeap : State → State → Type 0
+SameHeap s t = t.heap ≡ s.heap
 
--- the objects of t stand where those of s do
-abbrev SamePlaces : State → State → Type 0
-SamePlaces s t = t.heap.place ≡ s.heap.place
+-- where nothing goes
+same_after : (s t : State) (events : List Event) → events ≡ [] → SameHeap s t → PlacesAfter s events t
+unfolding IsDistinct
+same_after s t events none e = subst (λ events. PlacesAfter s events t) (sym none) (record {
+  taken = [];
+  told = refl;
+  present = λ n m. absurd (false≢true m);
+  unreached = λ n m r. false≢true m;
+  order = refl;
+  once = tt;
+  place = λ n p. ap (λ (heap : Heap). get heap.place n) e ∙ sym (get-without s.heap.place [] n);
+  limit = ap (λ (heap : Heap). heap.limit) e;
+})
 
-same_places : (s t : State) → t ≡ s → SamePlaces s t
-same_places s t e = ap (λ (u : State). u.heap.place) e
+same_heap : (s t : State) → t ≡ s → SameHeap s t
+same_heap s t e = ap (λ (u : State). u.heap) e
 
-root_places : (s t : State) (root : List ℕ) (value : Value) (answer reply : Reply) → WritesRoot s root value answer reply t → SamePlaces s t
-root_places s t root value answer reply w = ⊎_elim (λ (_, e). ap (λ (u : State). u.heap.place) e) (λ (_, _, e). same_places s t e) w
+-- so it is after a piece of work of a command without events
+piece_heap : (given : Type 0) (s t : State) → IsPiece given s t → SameHeap s t
+piece_heap given s t (Nothing same) = same_heap s t same
+piece_heap given s t (Root root value ident valid after) = ap (λ (u : State). u.heap) after
+piece_heap given s t (Dropped root after) = ap (λ (u : State). u.heap) after
+piece_heap given s t (Stack words after) = ap (λ (u : State). u.heap) after
+piece_heap given s t (Field name index value object valid after) = ap (λ (u : State). u.heap) after
 
-set_places : (s t : State) (root : List ℕ) (found : Result Value Refusal) (reply : Reply) → SetReply s root found reply t → SamePlaces s t
-set_places s t root (Ok value) reply e = root_places s t root value _ reply e
-set_places s t root (Err why) reply e = same_places s t e.unchanged
+-- what is present was allocated
+present_old : (s : State) → Sound s → (n : ℕ) → is_present s n ≡ true → n ≤ length s.graph
+present_old s h n p = let at = some_get (get s.heap.place n) p in (h.layout.placed.allocated n at.0 at.1).1
 
-drop_places : (s t : State) (root : List ℕ) (found : Option Value) (reply : Reply) → DropReply s root found reply t → SamePlaces s t
-drop_places s t root None reply e = same_places s t e.unchanged
-drop_places s t root (Some value) reply e = ap (λ (u : State). u.heap.place) e.1
-
-raw_places : (s t : State) (word : ℕ) (reply : Reply) → Raws s word reply t → SamePlaces s t
-raw_places s t word reply e = ⊎_elim (λ (_, after). ap (λ (u : State). u.heap.place) after) (λ (_, same). same_places s t same) e
-
-push_places : (s t : State) (found : Result Value Refusal) (reply : Reply) → PushReply s found reply t → SamePlaces s t
-push_places s t (Ok value) reply e = raw_places s t _ reply e
-push_places s t (Err why) reply e = same_places s t e.unchanged
-
-pop_places : (s t : State) (reply : Reply) → Pops s reply t → SamePlaces s t
-pop_places s t reply e = ⊎_elim (λ pops. ap (λ (u : State). u.heap.place) pops.after) (λ (_, refused). same_places s t refused.unchanged) e
-
-load_places : (s t : State) (root : List ℕ) (found : Result Value Refusal) (reply : Reply) → LoadReply s root found reply t → SamePlaces s t
-load_places s t root (Ok value) reply e = root_places s t root value _ reply e
-load_places s t root (Err why) reply e = same_places s t e.unchanged
-
-store_places : (s t : State) (index : ℕ) (found : Result (ℕ × Value) Refusal) (reply : Reply) → StoreReply s index found reply t → SamePlaces s t
-store_places s t index (Ok written) reply e = ap (λ (u : State). u.heap.place) e.1
-store_places s t index (Err why) reply e = same_places s t e.unchanged
-
-ready_after : (s ready : State) (pool : ℕ) (events : List Event) → IsReady s pool events ready → PlacesAfter s events ready × (length ready.graph ≡ length s.graph)
-ready_after s ready pool events e = ⊎_elim
-    (λ (none, same). (same_after s ready events none (same_places s ready same), ap (λ (u : State). length u.graph) same))
-    (λ first. (collects_after s ready events first.scans first.collects, ap length (collects_keeps s ready events first.scans first.collects).graph))
-    e
-
--- what is present isn't the next name
-present_old : (s : State) → Sound s → (n : ℕ) → is_present s n ≡ true → n ≡ length s.graph + 1 → ⊥
-present_old s h n p e =
-    let at = some_get (get s.heap.place n) p in
-    let born = (h.layout.placed.born n at.0 at.1).1 in
-    omega arith
-
--- an object is born after that
-born_after : (s ready t : State) (root : List ℕ) (fields : ℕ) (guard : Guard) (style : Style) (address : ℕ) (events : List Event) → Sound s → PlacesAfter s events ready × (length ready.graph ≡ length s.graph) → Born ready root fields guard style address t → PlacesAfter s events t
-born_after s ready t root fields guard style address events h (after, born) e = record {
+-- an object is made after that
+made_after : (s ready t : State) (root : List ℕ) (fields : ℕ) (guard : Guard) (style : Style) (address : ℕ) (events : List Event) →
+    Leaves s events ready → Born ready root fields guard style address t → PlacesAfter s events t
+made_after s ready t root fields guard style address events after e = record {
   taken = after.taken;
   told = after.told;
-  there = after.there;
+  present = after.present;
   unreached = after.unreached;
-  rising = after.rising;
+  order = after.order;
+  once = after.once;
   place = λ n p.
-      let other : n ≡ length ready.graph + 1 → ⊥ = λ is. present_old s h n p (is ∙ ap (λ k. k + 1) born) in
+      let other : n ≡ length ready.graph + 1 → ⊥ = λ is. let long = ap length after.graph in omega (arith, is, long, p) in
       ap (λ (u : State). get u.heap.place n) e
       ∙ get-insert_name ready.heap.place (length ready.graph + 1) address n
       ∙ cond-false (nat_eq n (length ready.graph + 1)) (Some address) (get ready.heap.place n) (ne_eqb n (length ready.graph + 1) other)
-      ∙ after.place n p;
+      ∙ after.place n;
+  limit = ap (λ (u : State). u.heap.limit) e ∙ after.limit;
 }
 
-new_after : (s t : State) (root : List ℕ) (fields : ℕ) (guard : Guard) (style : Style) (events : List Event) (reply : Reply) → Sound s → News s root fields guard style events reply t → PlacesAfter s events t
-new_after s t root fields guard style events (Made name address) h e =
-    born_after s e.ready t root fields guard style address events h (ready_after s e.ready (pool_for fields) events e.readied) e.after
-new_after s t root fields guard style events Full h e = collects_after s t events e.collected.scans e.collected.collects
-new_after s t root fields guard style events NoMemory h e = same_after s t events e.silent (same_places s t e.unchanged)
-new_after s t root fields guard style events (Refused why) h e = same_after s t events e.2 (same_places s t e.3)
-new_after s t root fields guard style events _ h e = absurd e
+new_after : (s t : State) (root : List ℕ) (fields : ℕ) (guard : Guard) (style : Style) (events : List Event) (reply : Reply) →
+    AnswersNew s root fields guard style events reply t → PlacesAfter s events t
+new_after s t root fields guard style events (Made name address) e =
+    made_after s e.ready t root fields guard style address events (passed_leaves e.place.before s (pool_for fields) events e.ready e.place.passed) e.made
+new_after s t root fields guard style events Full e = worked s t events (passed_leaves all_stages s (pool_for fields) events t e.passed)
+new_after s t root fields guard style events NoMemory e = ⊎_elim
+    (λ lacks. same_after s t events lacks.silent (same_heap s t lacks.unchanged))
+    (λ lacks. worked s t events (passed_leaves stages_before_page s (pool_for fields) events t lacks.passed))
+    e.1
+new_after s t root fields guard style events (Refused why) e = same_after s t events e.2 (same_heap s t e.3)
+new_after s t root fields guard style events _ e = absurd e
 
-gc_after : (s t : State) (events : List Event) (reply : Reply) → Collects s events reply t → PlacesAfter s events t
-gc_after s t events (Scanned scans) e = collects_after s t events scans e
-gc_after s t events _ e = absurd e
+collects_after : (s t : State) (kind : Kind) (events : List Event) (reply : Reply) → Collects s kind events reply t → PlacesAfter s events t
+collects_after s t kind events (Scanned scans) e = worked s t events (leaves_collected s t kind events scans e)
+collects_after s t kind events _ e = absurd e
 
-effects_after : (s t : State) (command : Command) (events : List Event) (reply : Reply) → Sound s → Effects s command events reply t → PlacesAfter s events t
-effects_after s t (New root fields guard style) events reply h e = new_after s t root fields guard style events reply h e
-effects_after s t (Set root value) events reply h e = same_after s t events e.0 (set_places s t root (input_value s value) reply e.1)
-effects_after s t (DropRoot root) events reply h e = same_after s t events e.0 (drop_places s t root (root_value s.roots root) reply e.1)
-effects_after s t (Push value) events reply h e = same_after s t events e.0 (push_places s t (input_value s value) reply e.1)
-effects_after s t (Raw word) events reply h e = same_after s t events e.0 (raw_places s t word reply e.1)
-effects_after s t Pop events reply h e = same_after s t events e.0 (pop_places s t reply e.1)
-effects_after s t (Store object index value) events reply h e = same_after s t events e.0 (store_places s t index (written_field s.graph (operand_value s object) index (input_value s value)) reply e.1)
-effects_after s t (Load root object index) events reply h e = same_after s t events e.0 (load_places s t root (field_value s.graph (operand_value s object) index) reply e.1)
-effects_after s t (Same left right) events reply h e = same_after s t events e.0 (same_places s t e.1.1)
-effects_after s t Gc events reply h e = gc_after s t events reply e
+-- a command without events leaves the heap as it was
+replies_heap : (s t : State) (command : Command) (reply : Reply) → Replies s command reply t → SameHeap s t
+replies_heap s t command reply e = piece_heap (IsGiven command) s t (replied_piece s t command reply e)
+
+-- what a command does to places, and its answer, which tells no name to be gone
+record EffectsAfter (s : State) (events : List Event) (answer : List Output) (t : State) : Type 0 where
+  after : PlacesAfter s events t
+  reply : Reply
+  answer_is : answer ≡ Replied reply ∷ []
+
+effects_after : (s t : State) (command : Command) (events : List Event) (answer : List Output) → Effects s command events answer t →
+    EffectsAfter s events answer t
+effects_after s t (New root fields guard style) events answer e =
+    record { after = new_after s t root fields guard style events e.reply e.is; reply = e.reply; answer_is = e.answer_is }
+effects_after s t Gc events answer e = record { after = collects_after s t FullKind events e.reply e.is; reply = e.reply; answer_is = e.answer_is }
+effects_after s t command events answer e =
+    record { after = same_after s t events e.0 (replies_heap s t command e.1.reply e.1.is); reply = e.1.reply; answer_is = e.1.answer_is }
+
+-- who is gone stays gone
+pub gone_stay : (s t : State) (command : Command) (outputs : List Output) → Lawful s command outputs t → (n : ℕ) → n ≤ length s.graph →
+    is_present s n ≡ false → is_present t n ≡ false
+gone_stay s t command outputs l n old gone =
+    let its = effects_after s t command l.events l.answer l.effects in
+    ap is_some (its.after.place n old ∙ get-without s.heap.place its.after.taken n)
+    ∙ none_left (is_member nat_eq its.after.taken n) (get s.heap.place n) gone
+  where
+    none_left : (b : Bool) (o : Option ℕ) → is_some o ≡ false → is_some (cond b None o) ≡ false
+    none_left true o none = refl
+    none_left false o none = none
 
 module _ (s t : State) (command : Command) (outputs : List Output) (l : Lawful s command outputs t) (h : Sound s) where
-  after : PlacesAfter s l.events t
-  after = effects_after s t command l.events l.reply h l.effects
+  its : EffectsAfter s l.events l.answer t
+  its = effects_after s t command l.events l.answer l.effects
 
-  told : gone_in outputs ≡ after.taken
-  told = ap gone_in l.outputs_are ∙ gone_outputs l.events l.reply ∙ after.told
+  outputs_are : outputs ≡ map Told l.events ++ Replied its.reply ∷ []
+  outputs_are = l.outputs_are ∙ ap (λ answer. map Told l.events ++ answer) its.answer_is
+
+  told : gone_in outputs ≡ its.after.taken
+  told = ap gone_in outputs_are ∙ gone_outputs l.events its.reply ∙ its.after.told
 
   -- where a present name is after the command
-  place_after : (n : ℕ) → is_present s n ≡ true → get t.heap.place n ≡ cond (is_member nat_eq after.taken n) None (get s.heap.place n)
-  place_after n p = after.place n p ∙ get-without s.heap.place after.taken n
+  place_after : (n : ℕ) → is_present s n ≡ true → get t.heap.place n ≡ cond (is_member nat_eq its.after.taken n) None (get s.heap.place n)
+  place_after n p = its.after.place n (present_old s h n p) ∙ get-without s.heap.place its.after.taken n
 
-  -- what is reached stays
-  pub lawful_stays : (n : ℕ) → Reach s n → get t.heap.place n ≡ get s.heap.place n
-  lawful_stays n r =
-      let stays : is_member nat_eq after.taken n ≡ false = false_from_ne_true _ (λ m. after.unreached n m r) in
-      place_after n (reached_present s h n r) ∙ cond-false (is_member nat_eq after.taken n) None (get s.heap.place n) stays
+  place_stays : (n : ℕ) → is_present s n ≡ true → is_member nat_eq its.after.taken n ≡ false → get t.heap.place n ≡ get s.heap.place n
+  place_stays n p out = place_after n p ∙ cond-false (is_member nat_eq its.after.taken n) None (get s.heap.place n) out
+
+  place_gone : (n : ℕ) → is_present s n ≡ true → is_member nat_eq its.after.taken n ≡ true → is_present t n ≡ false
+  place_gone n p taken = ap is_some (place_after n p ∙ cond-true (is_member nat_eq its.after.taken n) None (get s.heap.place n) taken)
+
+  -- what is reached stays where it stands
+  pub reached_stays : (n : ℕ) → Reach s n → get t.heap.place n ≡ get s.heap.place n
+  reached_stays n r = place_stays n (reached_present s h n r) (false_from_ne_true _ (λ taken. its.after.unreached n taken r))
+
+  -- so it is present
+  pub reached_there : (n : ℕ) → Reach s n → is_present t n ≡ true
+  reached_there n r = ap is_some (reached_stays n r) ∙ reached_present s h n r
+
+  -- and so does what is present after it
+  pub present_stays : (n : ℕ) → is_present s n ≡ true → is_present t n ≡ true → get t.heap.place n ≡ get s.heap.place n
+  present_stays n p q = place_stays n p (false_from_ne_true _ (λ taken. false≢true (sym (place_gone n p taken) ∙ q)))
 
   -- what goes is told
   pub lawful_told : (n : ℕ) → (is_member nat_eq (gone_in outputs) n ≡ true) ↔ ((is_present s n ≡ true) × (is_present t n ≡ false))
   lawful_told n = (
     (λ m.
-        let taken : is_member nat_eq after.taken n ≡ true = ap (λ names. is_member nat_eq names n) (sym told) ∙ m in
-        let p = after.there n taken in
-        (p, ap is_some (place_after n p ∙ cond-true (is_member nat_eq after.taken n) None (get s.heap.place n) taken))),
-    (λ (p, gone). ap (λ names. is_member nat_eq names n) told ∙ true_from_ne_false _ (λ stays.
-        let same = place_after n p ∙ cond-false (is_member nat_eq after.taken n) None (get s.heap.place n) stays in
-        false≢true (sym gone ∙ ap is_some same ∙ p))),
+        let taken : is_member nat_eq its.after.taken n ≡ true = ap (λ names. is_member nat_eq names n) (sym told) ∙ m in
+        let p = its.after.present n taken in
+        (p, place_gone n p taken)),
+    (λ (p, gone). ap (λ names. is_member nat_eq names n) told ∙ true_from_ne_false _ (λ stays. false≢true (sym gone ∙ ap is_some (place_stays n p stays) ∙ p))),
   )
 
-  pub lawful_rising : IsRising s.heap.place (gone_in outputs)
-  lawful_rising = subst (IsRising s.heap.place) (sym told) after.rising
+  pub lawful_order : AreToldInOrder s.heap.place [] outputs
+  lawful_order = subst (AreToldInOrder s.heap.place []) (sym outputs_are)
+      (AreToldInOrder-append s.heap.place [] (map Told l.events) (Replied its.reply ∷ []) its.after.order refl)
+
+  pub lawful_once : IsDistinct nat_eq (gone_in outputs)
+  lawful_once = subst (IsDistinct nat_eq) (sym told) its.after.once
+
+-- the limit stays, from any state
+pub limit_stays : (s t : State) (command : Command) (outputs : List Output) → Lawful s command outputs t → t.heap.limit ≡ s.heap.limit
+limit_stays s t command outputs l = (effects_after s t command l.events l.answer l.effects).after.limit

@@ -1,5 +1,5 @@
 -- The list of reached names has exactly these, each once.
-use Rattle.std.proofs.Common.{◌≡◌, ℕ, ◌-◌, zero, suc, true, List, [], ◌∷◌, ◌++◌, length, nat_eq, get_or, refl, sym, ap, ◌∙◌, inl, inr, ⊎_elim, arith, Option, None, Some}
+use Rattle.std.proofs.Common.{◌≡◌, ℕ, zero, suc, true, List, [], ◌∷◌, ◌++◌, length, nat_eq, get_or, refl, sym, ap, ◌∙◌, inl, inr, ⊎_elim, arith, Option, None, Some}
 use Rattle.std.specs.Prelude.{is_some, ◌↔◌}
 use Rattle.std.specs.List.{flat_map, list_any, IsDistinct}
 use Rattle.std.specs.Set.{is_member}
@@ -53,14 +53,16 @@ member-start_names s n = (
       h),
 )
 
-field_at : (graph : List Item) (i n : ℕ) → is_member nat_eq (flat_map names_of (get_or graph i no_item).values) n ≡ true → is_member nat_eq (flat_map (λ item. flat_map names_of item.values) graph) n ≡ true
+field_at : (graph : List Item) (i n : ℕ) → is_member nat_eq (flat_map names_of (get_or graph i no_item).values) n ≡ true →
+    is_member nat_eq (flat_map (λ item. flat_map names_of item.values) graph) n ≡ true
 field_at [] i n m = absurd (false≢true m)
 field_at (item ∷ graph) zero n m = member_left (flat_map names_of item.values) _ n m
 field_at (item ∷ graph) (suc i) n m = member_right (flat_map names_of item.values) _ n (field_at graph i n m)
 
 pub member-field_names : (graph : List Item) (parent n : ℕ) → IsChild graph parent n → is_member nat_eq (field_names graph) n ≡ true
 unfolding field_names children
-member-field_names graph parent n c = field_at graph (parent - 1) n c
+member-field_names graph zero n c = absurd (false≢true c)
+member-field_names graph (suc index) n c = field_at graph index n c
 
 module _ (s : State) where
   starts : List ℕ
@@ -76,7 +78,8 @@ module _ (s : State) where
 
   part : IsPart (start_names s.roots s.stack s.heap.place) (children s.graph) (reached_names s)
   unfolding reached_in
-  part = grown_times-part (start_names s.roots s.stack s.heap.place) (children s.graph) (length (start_names s.roots s.stack s.heap.place ++ field_names s.graph)) [] (nothing-part (start_names s.roots s.stack s.heap.place) (children s.graph))
+  part = grown_times-part (start_names s.roots s.stack s.heap.place) (children s.graph)
+      (length (start_names s.roots s.stack s.heap.place ++ field_names s.graph)) [] (nothing-part (start_names s.roots s.stack s.heap.place) (children s.graph))
 
   pub reached_names-once : IsDistinct nat_eq (reached_names s)
   reached_names-once = part.0
@@ -85,7 +88,10 @@ module _ (s : State) where
   pub member-reached_names : (n : ℕ) → (is_member nat_eq (reached_names s) n ≡ true) ↔ Reach s n
   unfolding reached_in
   member-reached_names n = (
-    (λ m. IsReached-mono (IsChild s.graph) (IsChild s.graph) Listed (IsStart s) (λ a b c. c) (λ a h. IsReached-start (IsChild s.graph) (IsStart s) a ((member-start_names s a).0 h)) n (part.1 n m)),
-    (λ r. grown_times-whole (start_names s.roots s.stack s.heap.place) (children s.graph) (start_names s.roots s.stack s.heap.place ++ field_names s.graph) all_names n
-        (IsReached-mono (IsChild s.graph) (IsChild s.graph) (IsStart s) Listed (λ a b c. c) (λ a h. IsReached-start (IsChild s.graph) Listed a ((member-start_names s a).1 h)) n r)),
+    (λ m. IsReached-mono (IsChild s.graph) (IsChild s.graph) Listed (IsStart s) (λ a b c. c)
+        (λ a h. IsReached-start (IsChild s.graph) (IsStart s) a ((member-start_names s a).0 h)) n (part.1 n m)),
+    (λ r. grown_times-whole (start_names s.roots s.stack s.heap.place) (children s.graph)
+        (start_names s.roots s.stack s.heap.place ++ field_names s.graph) all_names n
+        (IsReached-mono (IsChild s.graph) (IsChild s.graph) (IsStart s) Listed (λ a b c. c)
+        (λ a h. IsReached-start (IsChild s.graph) Listed a ((member-start_names s a).1 h)) n r)),
   )

@@ -11,7 +11,8 @@ use Rattle.std.proofs.lemmas.List.Quantifiers.{all_pairs_push}
 use Rattle.space_model.specs.Maps.{address_in, IsRising}
 
 -- names whose addresses are ascending
-pub IsRising-from_addresses : (m : FinMap nat_cmp ℕ) (names addresses : List ℕ) → map (address_in m) names ≡ addresses → AllPairs (λ x y. x < y) addresses → IsRising m names
+pub IsRising-from_addresses : (m : FinMap nat_cmp ℕ) (names addresses : List ℕ) → map (address_in m) names ≡ addresses → AllPairs (λ x y. x < y) addresses →
+    IsRising m names
 IsRising-from_addresses m names addresses e h = λ i j d lt on.
     let long = length-map names (address_in m) in
     let same : length (map (address_in m) names) ≡ length addresses = ap length e in
@@ -23,7 +24,8 @@ IsRising-from_addresses m names addresses e h = λ i j d lt on.
     omega arith
 
 -- one more name, with an address above the others
-pub IsRising-push : (m : FinMap nat_cmp ℕ) (names : List ℕ) (name : ℕ) → IsRising m names → ((k d : ℕ) → k < length names → address_in m (get_or names k d) < address_in m name) → IsRising m (names ++ name ∷ [])
+pub IsRising-push : (m : FinMap nat_cmp ℕ) (names : List ℕ) (name : ℕ) → IsRising m names →
+    ((k d : ℕ) → k < length names → address_in m (get_or names k d) < address_in m name) → IsRising m (names ++ name ∷ [])
 IsRising-push m names name h above = all_pairs_push (λ x y. address_in m x < address_in m y) names name h above
 
 -- the name at its place among the others, unless a name stands at its address
@@ -88,7 +90,8 @@ pairs m (x ∷ xs) h (suc i) (suc j) d lt on = pairs m xs h.1 i j d (omega arith
 pub IsRising-rising_names : (m : FinMap nat_cmp ℕ) (names : List ℕ) → IsRising m (rising_names m names)
 IsRising-rising_names m names = pairs m (rising_names m names) (rise_names m names)
 
-put_member : (m : FinMap nat_cmp ℕ) (name : ℕ) (xs : List ℕ) → ((x : ℕ) → is_member nat_eq xs x ≡ true → address_in m x ≡ address_in m name → x ≡ name) → (n : ℕ) → is_member nat_eq (put m name xs) n ≡ (nat_eq n name || is_member nat_eq xs n)
+put_member : (m : FinMap nat_cmp ℕ) (name : ℕ) (xs : List ℕ) → ((x : ℕ) → is_member nat_eq xs x ≡ true → address_in m x ≡ address_in m name → x ≡ name) →
+    (n : ℕ) → is_member nat_eq (put m name xs) n ≡ (nat_eq n name || is_member nat_eq xs n)
 put_member m name [] one n = refl
 put_member m name (x ∷ xs) one n =
     let e = put_member m name xs (λ y k. one y (or_right (nat_eq y x) _ k)) n in
@@ -113,7 +116,9 @@ put_member m name (x ∷ xs) one n =
     twice false false c e = refl
 
 -- they are the same names, where no two of them have one address
-pub member-rising_names : (m : FinMap nat_cmp ℕ) (names : List ℕ) → ((x y : ℕ) → is_member nat_eq names x ≡ true → is_member nat_eq names y ≡ true → address_in m x ≡ address_in m y → x ≡ y) → (n : ℕ) → is_member nat_eq (rising_names m names) n ≡ is_member nat_eq names n
+pub member-rising_names : (m : FinMap nat_cmp ℕ) (names : List ℕ) →
+    ((x y : ℕ) → is_member nat_eq names x ≡ true → is_member nat_eq names y ≡ true → address_in m x ≡ address_in m y → x ≡ y) → (n : ℕ) →
+    is_member nat_eq (rising_names m names) n ≡ is_member nat_eq names n
 member-rising_names m [] one n = refl
 member-rising_names m (name ∷ names) one n =
     let same = member-rising_names m names (λ x y h k. one x y (or_right (nat_eq x name) _ h) (or_right (nat_eq y name) _ k)) in

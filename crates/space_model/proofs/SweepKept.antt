@@ -11,7 +11,7 @@ use Rattle.std.proofs.lemmas.Bool.Decides.{nat_tests}
 use Rattle.std.proofs.lemmas.Map.Made.{is_member-Decides}
 use Rattle.space_model.specs.declared.phase.Phase.{Phase}
 use Rattle.space_model.specs.declared.phase.Phase.TheVariants.{Idle, Marking, Sweeping, Moving, Fixing}
-use Rattle.space_model.specs.Collections.{sweep_phase}
+use Rattle.space_model.specs.Sweeps.{sweep_phase}
 use Rattle.space_model.specs.Graph.{Item}
 use Rattle.space_model.specs.Layout.{page_of}
 use Rattle.space_model.specs.Pages.{pool_at, with_pool, pool_pages, is_used, spared}
@@ -39,7 +39,8 @@ pub sweeping : (phase : Phase) (pages : List (Option ℕ)) (page : ℕ) (others 
 sweeping phase pages page others h = ⊎_elim (λ p. p) (λ n. absurd (let w = h.none n in cc)) (is_sweeping phase)
 
 -- outside Sweeping there is no corpse
-pub no_corpse : (graph : List Item) (place corpses : FinMap nat_cmp ℕ) (phase : Phase) (pages : List (Option ℕ)) (unswept : List ℕ) → SoundCorpses graph place corpses pages unswept → SoundSweep phase pages unswept → phase ≢ Sweeping → (n a : ℕ) → get corpses n ≡ Some a → ⊥
+pub no_corpse : (graph : List Item) (place corpses : FinMap nat_cmp ℕ) (phase : Phase) (pages : List (Option ℕ)) (unswept : List ℕ) →
+    SoundCorpses graph place corpses pages unswept → SoundSweep phase pages unswept → phase ≢ Sweeping → (n a : ℕ) → get corpses n ≡ Some a → ⊥
 no_corpse graph place corpses phase pages unswept c h p n a e = false≢true (sym (ap (λ ps. is_member nat_eq ps (page_of a)) (h.none p)) ∙ c.on_unswept n a e)
 
 -- the first of ascending numbers is below the others
@@ -52,7 +53,8 @@ below_others first others n h m =
 rising_others : (first : ℕ) (others : List ℕ) → AllPairs (λ x y. x < y) (first ∷ others) → AllPairs (λ x y. x < y) others
 rising_others first others h = λ i j d l m. h (suc i) (suc j) d (omega arith) (omega arith)
 
-pub SoundSweep-born : (phase : Phase) (pages : List (Option ℕ)) (unswept : List ℕ) (page pool : ℕ) → page ≤ length pages → SoundSweep phase pages unswept → SoundSweep phase (with_pool pages page pool) unswept
+pub SoundSweep-born : (phase : Phase) (pages : List (Option ℕ)) (unswept : List ℕ) (page pool : ℕ) → page ≤ length pages → SoundSweep phase pages unswept →
+    SoundSweep phase (with_pool pages page pool) unswept
 SoundSweep-born phase pages unswept page pool below h = record {
   rising = h.rising;
   have_pools = λ p m. let q = pool_at-with_pool pages page pool p below in let k = h.have_pools p m in grind (arith, nat_tests, q, k, cases_eq p page);
@@ -68,7 +70,8 @@ SoundSweep-took pages = record {
   none = sweep_phase-none (pool_pages pages);
 }
 
-pub SoundSweep-swept : (phase : Phase) (place : FinMap nat_cmp ℕ) (pages : List (Option ℕ)) (page : ℕ) (others : List ℕ) → SoundSweep phase pages (page ∷ others) → SoundSweep (sweep_phase others) (spared place page pages) others
+pub SoundSweep-swept : (phase : Phase) (place : FinMap nat_cmp ℕ) (pages : List (Option ℕ)) (page : ℕ) (others : List ℕ) →
+    SoundSweep phase pages (page ∷ others) → SoundSweep (sweep_phase others) (spared place page pages) others
 SoundSweep-swept phase place pages page others h = record {
   rising = rising_others page others h.rising;
   have_pools = λ p m. let b = below_others page others p h.rising m in
@@ -78,21 +81,26 @@ SoundSweep-swept phase place pages page others h = record {
   none = sweep_phase-none others;
 }
 
-pub SoundUsed-born : (graph : List Item) (phase : Phase) (pages : List (Option ℕ)) (unswept : List ℕ) (place : FinMap nat_cmp ℕ) (address pool : ℕ) → page_of address ≤ length pages → AreSlots graph pages place → SoundUsed phase pages unswept place → SoundUsed phase (with_pool pages (page_of address) pool) unswept (insert place (length graph + 1) address)
+pub SoundUsed-born : (graph : List Item) (phase : Phase) (pages : List (Option ℕ)) (unswept : List ℕ) (place : FinMap nat_cmp ℕ) (address pool : ℕ) →
+    page_of address ≤ length pages → AreSlots graph pages place → SoundUsed phase pages unswept place →
+    SoundUsed phase (with_pool pages (page_of address) pool) unswept (insert place (length graph + 1) address)
 SoundUsed-born graph phase pages unswept place address pool below l h m x page p u = ⊎_elim
-    (λ same. used_by (insert place (length graph + 1) address) page (length graph + 1) address (let g = get-insert_name place (length graph + 1) address (length graph + 1) in grind (arith, nat_tests, g)) (sym same))
+    (λ same. used_by (insert place (length graph + 1) address) page (length graph + 1) address
+    (let g = get-insert_name place (length graph + 1) address (length graph + 1) in grind (arith, nat_tests, g)) (sym same))
     (λ other. let q = pool_at-with_pool pages (page_of address) pool page below in
     let k = user place page (h m x page (grind (arith, nat_tests, q, p, other)) u) in
     ⊎_elim
-    (λ e. absurd (let b = l.born k.0 k.1 k.2 in omega arith))
-    (λ d. used_by (insert place (length graph + 1) address) page k.0 k.1 (let g = get-insert_name place (length graph + 1) address k.0 in let w = k.2 in grind (arith, nat_tests, g, w, d)) k.3)
+    (λ e. absurd (let b = l.allocated k.0 k.1 k.2 in omega arith))
+    (λ d. used_by (insert place (length graph + 1) address) page k.0 k.1
+    (let g = get-insert_name place (length graph + 1) address k.0 in let w = k.2 in grind (arith, nat_tests, g, w, d)) k.3)
     (cases_eq k.0 (length graph + 1)))
     (cases_eq page (page_of address))
 
 pub SoundUsed-took : (phase : Phase) (pages : List (Option ℕ)) (place : FinMap nat_cmp ℕ) → SoundUsed phase pages (pool_pages pages) place
 SoundUsed-took phase pages place m x page p u = absurd (let e = member-pool_pages pages page in cc)
 
-pub SoundUsed-swept : (phase : Phase) (place : FinMap nat_cmp ℕ) (pages : List (Option ℕ)) (page : ℕ) (others : List ℕ) → phase ≢ Moving → phase ≢ Fixing → SoundUsed phase pages (page ∷ others) place → SoundUsed (sweep_phase others) (spared place page pages) others place
+pub SoundUsed-swept : (phase : Phase) (place : FinMap nat_cmp ℕ) (pages : List (Option ℕ)) (page : ℕ) (others : List ℕ) → phase ≢ Moving → phase ≢ Fixing →
+    SoundUsed phase pages (page ∷ others) place → SoundUsed (sweep_phase others) (spared place page pages) others place
 SoundUsed-swept phase place pages page others a b h m x p e u = ⊎_elim
     (λ same. stands p same e)
     (λ other. ⊎_elim
@@ -104,5 +112,6 @@ SoundUsed-swept phase place pages page others a b h m x p e u = ⊎_elim
     stands : (p : ℕ) → p ≡ page → is_some (pool_at (spared place page pages) p) ≡ true → is_used place p ≡ true
     stands p same e = ⊎_elim
         (λ t. ap (is_used place) same ∙ t)
-        (λ f. absurd (false≢true (sym (ap is_some (ap (pool_at (spared place page pages)) same ∙ pool_at-spared_page place page pages ∙ ap (λ c. cond c (pool_at pages page) None) f)) ∙ e)))
+        (λ f. absurd (false≢true (sym (ap is_some
+        (ap (pool_at (spared place page pages)) same ∙ pool_at-spared_page place page pages ∙ ap (λ c. cond c (pool_at pages page) None) f)) ∙ e)))
         (cases_Bool (is_used place page))

@@ -1,5 +1,5 @@
 -- What a state is like after all its pages were swept, and after a whole collection.
-use Rattle.std.proofs.Common.{◌≡◌, ℕ, ◌+◌, ◌||◌, cond, true, List, [], ◌∷◌, ◌++◌, Bool, length, nat_eq, refl, sym, ap, ◌∙◌, subst, arith, Option, None, Some, ⊎_elim}
+use Rattle.std.proofs.Common.{◌≡◌, ◌≢◌, ℕ, zero, suc, ◌+◌, ◌||◌, cond, true, List, [], ◌∷◌, ◌++◌, Bool, length, nat_eq, refl, sym, ap, ◌∙◌, subst, arith, Option, None, Some, ⊎_elim}
 use Rattle.std.specs.Prelude.{is_some}
 use Rattle.std.specs.Set.{is_member}
 use Rattle.std.specs.Ordering.{nat_cmp}
@@ -8,8 +8,10 @@ use Rattle.std.proofs.lemmas.Bool.{cases_Bool, cases_eq, or_left, eq-eqb, ne_eqb
 use Rattle.std.proofs.lemmas.List.{length-append}
 use Rattle.space_model.specs.declared.event.Kind.{Kind}
 use Rattle.space_model.specs.declared.event.Kind.TheVariants.{Minor, Major, Full}
-use Rattle.space_model.specs.declared.phase.Phase.TheVariants.{Idle}
-use Rattle.space_model.specs.Collections.{aged, sweep_phase, took, Took, swept, Sweep1, Sweeps, SweepAll}
+use Rattle.space_model.specs.declared.phase.Phase.TheVariants.{Idle, Moving, Fixing}
+use Rattle.space_model.specs.Ages.{aged}
+use Rattle.space_model.specs.Sweeps.{sweep_phase, swept, Sweep1, Sweeps, SweepAll}
+use Rattle.space_model.specs.Markings.{took, Took}
 use Rattle.space_model.specs.Maps.{without}
 use Rattle.space_model.specs.Moments.{noted}
 use Rattle.space_model.specs.Pages.{pool_at, pool_pages, is_used, spared}
@@ -30,7 +32,8 @@ pub record IsSwept (unswept freed : List ℕ) (s t : State) : Type 0 where
   pub left : t.heap.left ≡ s.heap.left
   pub limit : t.heap.limit ≡ s.heap.limit
   pub none_waits : t.heap.unswept ≡ []
-  pub pools : (q : ℕ) → pool_at t.heap.pages q ≡ cond (is_member nat_eq unswept q) (cond (is_used s.heap.place q) (pool_at s.heap.pages q) None) (pool_at s.heap.pages q)
+  pub pools : (q : ℕ) →
+      pool_at t.heap.pages q ≡ cond (is_member nat_eq unswept q) (cond (is_used s.heap.place q) (pool_at s.heap.pages q) None) (pool_at s.heap.pages q)
   pub page_count : length t.heap.pages ≡ length s.heap.pages
   pub outlived : t.collector.outlived ≡ s.collector.outlived
   pub phase : s.collector.phase ≡ sweep_phase unswept → t.collector.phase ≡ Idle
@@ -41,13 +44,15 @@ pools_swept : (place : FinMap nat_cmp ℕ) (pages : List (Option ℕ)) (page : �
     ≡ cond (is_member nat_eq (page ∷ others) q) (cond (is_used place q) (pool_at pages q) None) (pool_at pages q)
 pools_swept place pages page others q = ⊎_elim
     (λ same.
-    let e : pool_at (spared place page pages) q ≡ cond (is_used place q) (pool_at pages q) None = subst (λ x. pool_at (spared place page pages) x ≡ cond (is_used place x) (pool_at pages x) None) (sym same) (pool_at-spared_page place page pages) in
+    let e : pool_at (spared place page pages) q ≡ cond (is_used place q) (pool_at pages q) None =
+    subst (λ x. pool_at (spared place page pages) x ≡ cond (is_used place x) (pool_at pages x) None) (sym same) (pool_at-spared_page place page pages) in
     let m : is_member nat_eq (page ∷ others) q ≡ true = or_left _ _ (eq-eqb q page same) in
     grind (arith, e, m, cases_Bool (is_used place q), cases_Bool (is_member nat_eq others q)))
     (λ other.
     let m : is_member nat_eq (page ∷ others) q ≡ is_member nat_eq others q = ap (λ b. b || is_member nat_eq others q) (ne_eqb q page other) in
     ⊎_elim
-    (λ e. ap (λ o. cond (is_member nat_eq others q) (cond (is_used place q) o None) o) e ∙ ap (λ b. cond b (cond (is_used place q) (pool_at pages q) None) (pool_at pages q)) (sym m))
+    (λ e. ap (λ o. cond (is_member nat_eq others q) (cond (is_used place q) o None) o) e
+    ∙ ap (λ b. cond b (cond (is_used place q) (pool_at pages q) None) (pool_at pages q)) (sym m))
     (λ (e, _). absurd (other e))
     (pool_at-spared place page pages q))
     (cases_eq q page)
@@ -93,6 +98,12 @@ Sweeps-swept (page ∷ others) s t freed e (now, later, mid, both, step, more) =
       total = (let a = k.total in let b : length freed ≡ length (now ++ later) = ap length both in let c = length-append now later in omega arith);
     }
 
+-- sweeps move and take no object
+pub Sweeps-place : (pages : ℕ) (s t : State) (freed : List ℕ) → Sweeps pages s freed t → t.heap.place ≡ s.heap.place
+Sweeps-place zero s t freed (none, same) = ap (λ (u : State). u.heap.place) same
+Sweeps-place (suc pages) s t freed (now, later, mid, both, step, more) =
+    Sweeps-place pages mid t later more ∙ ap (λ (u : State). u.heap.place) step.after
+
 pub SweepAll-swept : (s t : State) (freed : List ℕ) → SweepAll s freed t → IsSwept s.heap.unswept freed s t
 SweepAll-swept s t freed h = Sweeps-swept s.heap.unswept s t freed refl h
 
@@ -112,10 +123,12 @@ pub record IsCollected (s : State) (kind : Kind) (taken freed : List ℕ) (t : S
   pub phase : t.collector.phase ≡ Idle
   pub total : t.counters.freed ≡ s.counters.freed + length freed
 
-bare : (pages : List (Option ℕ)) (used : Bool) (q : ℕ) → cond (is_member nat_eq (pool_pages pages) q) (cond used (pool_at pages q) None) (pool_at pages q) ≡ cond used (pool_at pages q) None
+bare : (pages : List (Option ℕ)) (used : Bool) (q : ℕ) →
+    cond (is_member nat_eq (pool_pages pages) q) (cond used (pool_at pages q) None) (pool_at pages q) ≡ cond used (pool_at pages q) None
 bare pages used q = let m = member-pool_pages pages q in none_there (pool_at pages q) m
   where
-    none_there : (o : Option ℕ) → is_member nat_eq (pool_pages pages) q ≡ is_some o → cond (is_member nat_eq (pool_pages pages) q) (cond used o None) o ≡ cond used o None
+    none_there : (o : Option ℕ) → is_member nat_eq (pool_pages pages) q ≡ is_some o →
+        cond (is_member nat_eq (pool_pages pages) q) (cond used o None) o ≡ cond used o None
     none_there None m = grind (arith, m, cases_Bool used)
     none_there (Some pool) m = grind (arith, m, cases_Bool used)
 
@@ -124,13 +137,14 @@ same_freed Minor s taken = refl
 same_freed Major s taken = refl
 same_freed Full s taken = refl
 
-pub collected : (s m t : State) (kind : Kind) (taken freed : List ℕ) → Sound s → IsVerdict s kind taken → Took s kind taken m → SweepAll m freed t → IsCollected s kind taken freed t
-collected s m t kind taken freed h v e sweep =
+pub collected : (s m t : State) (kind : Kind) (taken freed : List ℕ) → s.collector.phase ≢ Moving → s.collector.phase ≢ Fixing → Sound s →
+    IsVerdict s kind taken → Took s kind taken m → SweepAll m freed t → IsCollected s kind taken freed t
+collected s m t kind taken freed moves fixes h v e sweep =
     let place = without s.heap.place taken in
     let u : State = noted (took s kind taken) in
     let all : SweepAll u freed t = subst (λ x. SweepAll x freed t) e sweep in
     let k = SweepAll-swept u t freed all in
-    let sound : Sound t = Sound-sweeps _ u t freed all (Sound-took s u kind taken v refl h) in
+    let sound : Sound t = Sound-sweeps _ u t freed all (Sound-took s u kind taken moves fixes v refl h) in
     let idle = k.phase refl in
     record {
       graph = k.graph;

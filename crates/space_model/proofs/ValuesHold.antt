@@ -14,13 +14,14 @@ use Rattle.space_model.specs.declared.reply.Refusal.{Refusal}
 use Rattle.space_model.specs.declared.reply.Refusal.TheVariants.{NoRoot, NoWord, NotObject, NoField}
 use Rattle.space_model.specs.declared.value.Value.{Value}
 use Rattle.space_model.specs.declared.value.Value.TheVariants.{Nil, Small, Name}
-use Rattle.space_model.specs.Answers.{field_value, written_field}
+use Rattle.space_model.specs.RootCommands.{field_value}
+use Rattle.space_model.specs.ObjectCommands.{written_field}
 use Rattle.space_model.specs.Graph.{item_of}
 use Rattle.space_model.specs.Operands.{word_value, word_value_in, operand_value, input_value, object_in, field_in}
 use Rattle.space_model.specs.Maps.{names_at}
 use Rattle.space_model.specs.Refusals.{and_then}
 use Rattle.space_model.specs.Roots.{root_value}
-use Rattle.space_model.specs.GivenIntegers.{IsSmallInput}
+use Rattle.space_model.specs.CommandTexts.{IsWritableInput}
 use Rattle.space_model.specs.State.{State}
 use Rattle.space_model.proofs.ReachedLaws.{member-names_at}
 
@@ -56,7 +57,9 @@ module _ (s : State) (P : Value → Type 0) (h : IsKeptFact s P) where
       let same : Name name ≡ value = cc in
       subst P same (h.named word name ((member-names_at s.heap.place word name).0 (first_member (names_at s.heap.place word) name e)))
 
-  word_cases : (word : ℕ) (is_nil is_small : Bool) (value : Value) → (is_small ≡ true → word / 2 < 2 ^ 62) → (if is_nil then Some Nil else if is_small then Some (Small (word / 2)) else option_map Name (slice_get (names_at s.heap.place word) 0)) ≡ Some value → P value
+  word_cases : (word : ℕ) (is_nil is_small : Bool) (value : Value) → (is_small ≡ true → word / 2 < 2 ^ 62) →
+      (if is_nil then Some Nil else if is_small then Some (Small (word / 2)) else option_map Name (slice_get (names_at s.heap.place word) 0)) ≡ Some value →
+      P value
   word_cases word true is_small value low e = let same : Nil ≡ value = cc in subst P same h.nil
   word_cases word false true value low e = let same : Small (word / 2) ≡ value = cc in subst P same (h.small (word / 2) (low refl))
   word_cases word false false value low e = word_name word (slice_get (names_at s.heap.place word) 0) value refl e
@@ -72,7 +75,7 @@ module _ (s : State) (P : Value → Type 0) (h : IsKeptFact s P) where
   operand_holds (RootOperand name) value e = h.root name value (from_option (root_value s.roots name) NoRoot value e)
   operand_holds (Word k) value e = word_in_holds (slice_get (reverse s.stack) k) value e
 
-  pub input_holds : (input : Input) (value : Value) → IsSmallInput input → input_value s input ≡ Ok value → P value
+  pub input_holds : (input : Input) (value : Value) → IsWritableInput input → input_value s input ≡ Ok value → P value
   input_holds (From operand) value i e = operand_holds operand value e
   input_holds NilInput value i e = subst P (ok_same Nil value e) h.nil
   input_holds (SmallInput number) value i e = subst P (ok_same (Small number) value e) (h.small number i)
@@ -85,11 +88,13 @@ module _ (s : State) (P : Value → Type 0) (h : IsKeptFact s P) where
   object_holds (Small number) name p e = absurd (ok_err name NotObject e)
   object_holds (Name other) name p e = let same : other ≡ name = cc in subst (λ (n : ℕ). P (Name n)) same p
 
-  through_object : (object : Value) (named : Result ℕ Refusal) (index : ℕ) (value : Value) → P object → object_in object ≡ named → and_then named (λ name. field_in (item_of s.graph name) index) ≡ Ok value → P value
+  through_object : (object : Value) (named : Result ℕ Refusal) (index : ℕ) (value : Value) → P object → object_in object ≡ named →
+      and_then named (λ name. field_in (item_of s.graph name) index) ≡ Ok value → P value
   through_object object (Err why) index value p o e = absurd (ok_err value why e)
   through_object object (Ok name) index value p o e = field_holds name index value (object_holds object name p o) e
 
-  through_operand : (operand : Operand) (found : Result Value Refusal) (index : ℕ) (value : Value) → operand_value s operand ≡ found → field_value s.graph found index ≡ Ok value → P value
+  through_operand : (operand : Operand) (found : Result Value Refusal) (index : ℕ) (value : Value) → operand_value s operand ≡ found →
+      field_value s.graph found index ≡ Ok value → P value
   through_operand operand (Err why) index value o e = absurd (ok_err value why e)
   through_operand operand (Ok object) index value o e = through_object object (object_in object) index value (operand_holds operand object o) refl e
 
@@ -100,22 +105,28 @@ module _ (s : State) (P : Value → Type 0) (h : IsKeptFact s P) where
   abbrev pub HoldsOfWrite : ℕ × Value → Type 0
   HoldsOfWrite written = P (Name written.0) × P written.1
 
-  write_field : (field : Result Value Refusal) (name : ℕ) (value : Value) (written : ℕ × Value) → P (Name name) → P value → and_then field (λ old. Ok (name, value)) ≡ Ok written → HoldsOfWrite written
+  write_field : (field : Result Value Refusal) (name : ℕ) (value : Value) (written : ℕ × Value) → P (Name name) → P value →
+      and_then field (λ old. Ok (name, value)) ≡ Ok written → HoldsOfWrite written
   write_field (Err why) name value written p q e = absurd (ok_err written why e)
   write_field (Ok old) name value written p q e =
       let same : (name, value) ≡ written = cc in
       subst HoldsOfWrite same (p, q)
 
-  write_object : (object value : Value) (named : Result ℕ Refusal) (index : ℕ) (written : ℕ × Value) → P object → P value → object_in object ≡ named → and_then named (λ name. and_then (field_in (item_of s.graph name) index) (λ old. Ok (name, value))) ≡ Ok written → HoldsOfWrite written
+  write_object : (object value : Value) (named : Result ℕ Refusal) (index : ℕ) (written : ℕ × Value) → P object → P value → object_in object ≡ named →
+      and_then named (λ name. and_then (field_in (item_of s.graph name) index) (λ old. Ok (name, value))) ≡ Ok written → HoldsOfWrite written
   write_object object value (Err why) index written p q o e = absurd (ok_err written why e)
-  write_object object value (Ok name) index written p q o e = write_field (field_in (item_of s.graph name) index) name value written (object_holds object name p o) q e
+  write_object object value (Ok name) index written p q o e =
+      write_field (field_in (item_of s.graph name) index) name value written (object_holds object name p o) q e
 
-  write_values : (object : Operand) (input : Input) (a b : Result Value Refusal) (index : ℕ) (written : ℕ × Value) → IsSmallInput input → operand_value s object ≡ a → input_value s input ≡ b → written_field s.graph a index b ≡ Ok written → HoldsOfWrite written
-  write_values object input (Ok a) (Ok b) index written i o v e = write_object a b (object_in a) index written (operand_holds object a o) (input_holds input b i v) refl e
+  write_values : (object : Operand) (input : Input) (a b : Result Value Refusal) (index : ℕ) (written : ℕ × Value) → IsWritableInput input →
+      operand_value s object ≡ a → input_value s input ≡ b → written_field s.graph a index b ≡ Ok written → HoldsOfWrite written
+  write_values object input (Ok a) (Ok b) index written i o v e =
+      write_object a b (object_in a) index written (operand_holds object a o) (input_holds input b i v) refl e
   write_values object input (Ok a) (Err why) index written i o v e = absurd (ok_err written why e)
   write_values object input (Err why) (Ok b) index written i o v e = absurd (ok_err written why e)
   write_values object input (Err why) (Err other) index written i o v e = absurd (ok_err written _ e)
 
   -- of the object that `store` writes, and of the value that it writes
-  pub write_holds : (object : Operand) (index : ℕ) (input : Input) (written : ℕ × Value) → IsSmallInput input → written_field s.graph (operand_value s object) index (input_value s input) ≡ Ok written → HoldsOfWrite written
+  pub write_holds : (object : Operand) (index : ℕ) (input : Input) (written : ℕ × Value) → IsWritableInput input →
+      written_field s.graph (operand_value s object) index (input_value s input) ≡ Ok written → HoldsOfWrite written
   write_holds object index input written i e = write_values object input (operand_value s object) (input_value s input) index written i refl refl e

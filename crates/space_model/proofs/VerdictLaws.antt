@@ -1,5 +1,5 @@
--- What is reached outlives each verdict, and a full one leaves nothing else.
-use Rattle.std.proofs.Common.{◌≡◌, ◌⊎◌, ℕ, true, false, List, length, nat_eq, refl, sym, ap, ◌∙◌, subst, arith, ⊎_elim, inl, inr, Some}
+-- What is reached outlives each verdict, none is reached that wasn't, and a full one leaves nothing else.
+use Rattle.std.proofs.Common.{◌≡◌, ◌⊎◌, ℕ, true, List, length, nat_eq, refl, sym, ap, ◌∙◌, subst, arith, ⊎_elim, inl, inr}
 use Rattle.std.specs.Prelude.{is_some, ◌↔◌}
 use Rattle.std.specs.Cmp.{nat_eq_equiv}
 use Rattle.std.specs.Set.{is_member}
@@ -8,7 +8,7 @@ use Rattle.std.proofs.lemmas.Bool.{cases_Bool, false_from_ne_true}
 use Rattle.std.proofs.lemmas.Map.Made.{length-le_from_is_member}
 use Rattle.space_model.specs.declared.event.Kind.{Kind}
 use Rattle.space_model.specs.declared.event.Kind.TheVariants.{Full}
-use Rattle.space_model.specs.Collections.{mark_started, StartMark, took, Took}
+use Rattle.space_model.specs.Markings.{mark_started, StartMark, took, Took}
 use Rattle.space_model.specs.Counts.{CountIs}
 use Rattle.space_model.specs.Graph.{IsChild}
 use Rattle.space_model.specs.Maps.{IsRising, without}
@@ -17,7 +17,7 @@ use Rattle.space_model.specs.Reached.{reached_names}
 use Rattle.space_model.specs.Sound.{Sound, SoundNames}
 use Rattle.space_model.specs.State.{State, is_present}
 use Rattle.space_model.specs.Verdicts.{IsVerdict}
-use Rattle.space_model.proofs.MapLaws.{some_get, held_without, left-without, present-without}
+use Rattle.space_model.proofs.MapLaws.{held_without, left-without, present-without}
 use Rattle.space_model.proofs.ReachedLaws.{member-reached_names, reached_names-once}
 use Rattle.space_model.proofs.Reaching.{IsReached-start, IsReached-closed, IsReached-least, IsReached-mono}
 
@@ -52,7 +52,8 @@ pub scans_are_reached : (s t : State) → StartMark s t → CountIs (Reach s) (l
 scans_are_reached s t e = subst (λ (u : State). CountIs (Reach s) (length u.history.seen)) (sym e) (CountIs-reached s)
 
 -- the present names that aren't reached, in ascending order, are what a full verdict takes
-pub full_verdict : (s : State) (taken : List ℕ) → ((n : ℕ) → (is_member nat_eq taken n ≡ true) ↔ ((is_present s n ≡ true) × (Reach s n → ⊥))) → IsRising s.heap.place taken → IsVerdict s Full taken
+pub full_verdict : (s : State) (taken : List ℕ) → ((n : ℕ) → (is_member nat_eq taken n ≡ true) ↔ ((is_present s n ≡ true) × (Reach s n → ⊥))) →
+    IsRising s.heap.place taken → IsVerdict s Full taken
 full_verdict s taken are rising = record {
   present = λ n m. ((are n).0 m).0;
   rising = rising;
@@ -76,29 +77,25 @@ module _ (s : State) (kind : Kind) (taken : List ℕ) (v : IsVerdict s kind take
       (λ w. inr (w.0, w.1, (held_without s.heap.place taken n w.0 w.2).0))
       start))
 
-  still_named : (word n : ℕ) → get s.heap.place n ≡ Some word → is_member nat_eq taken n ≡ false → get (without s.heap.place taken) n ≡ Some word
-  still_named word n e f =
-      let at = some_get _ (present-without s.heap.place taken n (ap is_some e) f) in
-      let x = held_without s.heap.place taken n at.0 at.1 in
-      at.1 ∙ sym x.0 ∙ e
+-- what is reached after a verdict was reached before it
+pub reach_no_more : (s t : State) (kind : Kind) (taken : List ℕ) → IsVerdict s kind taken → Took s kind taken t → (n : ℕ) → Reach t n → Reach s n
+reach_no_more s t kind taken v e n = subst (λ (u : State). Reach u n → Reach s n) (sym e) (λ r. reached_before s kind taken v n r)
 
-  reached_after : (n : ℕ) → Reach s n → Reach (took s kind taken) n
-  reached_after = IsReached-mono (IsChild s.graph) (IsChild s.graph) (IsStart s) (IsStart (took s kind taken)) (λ m n c. c)
-      (λ n start. IsReached-start (IsChild s.graph) (IsStart (took s kind taken)) n (⊎_elim
-      (λ r. inl r)
-      (λ w. inr (w.0, w.1, still_named w.0 n w.2 (false_from_ne_true _ (λ t. v.unreached n t (IsReached-start (IsChild s.graph) (IsStart s) n (inr w))))))
-      start))
+took_place : (s t : State) (kind : Kind) (taken : List ℕ) → Took s kind taken t → (n : ℕ) → is_present t n ≡ is_some (get (without s.heap.place taken) n)
+took_place s t kind taken e n = ap (λ (u : State). is_present u n) e
 
-  -- a name is reached after a verdict just where it was before
-  pub reach_outlives : (t : State) → Took s kind taken t → (n : ℕ) → Reach t n ↔ Reach s n
-  reach_outlives t e n = subst (λ (u : State). Reach u n ↔ Reach s n) (sym e) ((λ r. reached_before n r), (λ r. reached_after n r))
+-- what is reached before a verdict is present after it
+pub reached_outlive : (s t : State) (kind : Kind) (taken : List ℕ) → IsVerdict s kind taken → Took s kind taken t → Sound s → (n : ℕ) → Reach s n →
+    is_present t n ≡ true
+reached_outlive s t kind taken v e h n r =
+    took_place s t kind taken e n
+    ∙ present-without s.heap.place taken n (reach_present s h.names n r) (false_from_ne_true _ (λ gone. v.unreached n gone r))
 
--- after a full verdict the present names are the reached ones
-pub full_leaves_reached : (s t : State) (taken : List ℕ) → IsVerdict s Full taken → Took s Full taken t → Sound s → (n : ℕ) → (is_present t n ≡ true) ↔ Reach t n
-full_leaves_reached s t taken v e h n =
-    let same = reach_outlives s Full taken v t e n in
-    let there : is_present t n ≡ is_some (get (without s.heap.place taken) n) = ap (λ (u : State). is_present u n) e in (
-      (λ p. let x = left-without s.heap.place taken n (sym there ∙ p) in
-          ⊎_elim (λ r. same.1 r) (λ u. absurd (let t = v.by_kind n x.0 u in let f = x.1 in cc)) (is_reached s n)),
-      (λ r. there ∙ present-without s.heap.place taken n (reach_present s h.names n (same.0 r)) (false_from_ne_true _ (λ t. v.unreached n t (same.0 r)))),
-    )
+-- after a full verdict the present names are those that were reached before it
+pub full_leaves_reached : (s t : State) (taken : List ℕ) → IsVerdict s Full taken → Took s Full taken t → Sound s → (n : ℕ) →
+    (is_present t n ≡ true) ↔ Reach s n
+full_leaves_reached s t taken v e h n = (
+  (λ p. let x = left-without s.heap.place taken n (sym (took_place s t Full taken e n) ∙ p) in
+      ⊎_elim (λ r. r) (λ u. absurd (let t = v.by_kind n x.0 u in let f = x.1 in cc)) (is_reached s n)),
+  (λ r. reached_outlive s t Full taken v e h n r),
+)

@@ -1,17 +1,14 @@
--- How a command is spelled: its words with one space between two, numbers without leading zeros.
-use Rattle.std.specs.Prelude.{◌≡◌, ℕ, ◌<◌, ◌^◌, List, [], ◌∷◌, ◌++◌, codes}
+-- How a command is spelled: the words of its form with one space between two, and numbers without leading zeros.
+use Rattle.std.specs.Prelude.{ℕ, ◌<◌, ◌^◌, List, [], ◌∷◌, ◌++◌, codes}
 use Rattle.space_model.specs.declared.command.Command.{Command}
-use Rattle.space_model.specs.declared.command.Command.TheVariants.{New, Set, DropRoot, Push, Raw, Pop, Store, Load, Same, Gc}
 use Rattle.space_model.specs.declared.command.Input.{Input}
 use Rattle.space_model.specs.declared.command.Input.TheVariants.{From, Nil, Small}
 use Rattle.space_model.specs.declared.command.Operand.{Operand}
 use Rattle.space_model.specs.declared.command.Operand.TheVariants.{Root, Word}
-use Rattle.space_model.specs.declared.object.Guard.{Guard}
-use Rattle.space_model.specs.declared.object.Guard.TheVariants.{Protected, Unprotected}
-use Rattle.space_model.specs.declared.object.Style.{Style}
-use Rattle.space_model.specs.declared.object.Style.TheVariants.{Movable, Keeping}
+use Rattle.space_model.specs.Grammar.{FormWord, Exactly, IdentWord, Decimal, Base16, OperandWord, InputWord, form_of, HasLine}
 use Rattle.space_model.specs.Idents.{IsIdent}
 use Rattle.space_model.specs.Spelling.{Piece, Say, Number, Hex, Called, text_of_pieces}
+use Rattle.space_model.specs.Words.{IsSmallInteger}
 
 -- a root by its ident, a stack word by `@` and its place
 abbrev pub operand_pieces : Operand → List Piece
@@ -24,53 +21,54 @@ input_pieces (From operand) = operand_pieces operand
 input_pieces Nil = Say (codes "nil") ∷ []
 input_pieces (Small number) = Say (codes "=") ∷ Number number ∷ []
 
--- a space, and `P` or `U`
-abbrev pub guard_text : Guard → List ℕ
-guard_text Protected = codes " P"
-guard_text Unprotected = codes " U"
+-- the pieces of a word of a form
+abbrev pub word_pieces : FormWord → List Piece
+word_pieces (Exactly text) = Say text ∷ []
+word_pieces (IdentWord ident) = Called ident ∷ []
+word_pieces (Decimal number) = Number number ∷ []
+word_pieces (Base16 number) = Hex number ∷ []
+word_pieces (OperandWord operand) = operand_pieces operand
+word_pieces (InputWord value) = input_pieces value
 
--- a space, and `M` or `K`
-abbrev pub style_text : Style → List ℕ
-style_text Movable = codes " M"
-style_text Keeping = codes " K"
+-- the pieces of the words, with a space between two
+abbrev pub spaced_pieces : List FormWord → List Piece
+spaced_pieces [] = []
+spaced_pieces (word ∷ []) = word_pieces word
+spaced_pieces (word ∷ next ∷ words) = word_pieces word ++ Say (codes " ") ∷ spaced_pieces (next ∷ words)
 
 -- the pieces of the line of a command
 abbrev pub command_pieces : Command → List Piece
-command_pieces (New root fields guard style) = Say (codes "new ") ∷ Called root ∷ Say (codes " ") ∷ Number fields ∷ Say (guard_text guard) ∷ Say (style_text style) ∷ []
-command_pieces (Set root value) = Say (codes "set ") ∷ Called root ∷ Say (codes " ") ∷ input_pieces value
-command_pieces (DropRoot root) = Say (codes "drop ") ∷ Called root ∷ []
-command_pieces (Push value) = Say (codes "push ") ∷ input_pieces value
-command_pieces (Raw word) = Say (codes "raw ") ∷ Hex word ∷ []
-command_pieces Pop = Say (codes "pop") ∷ []
-command_pieces (Store object index value) = Say (codes "store ") ∷ operand_pieces object ++ Say (codes " ") ∷ Number index ∷ Say (codes " ") ∷ input_pieces value
-command_pieces (Load root object index) = Say (codes "load ") ∷ Called root ∷ Say (codes " ") ∷ operand_pieces object ++ Say (codes " ") ∷ Number index ∷ []
-command_pieces (Same left right) = Say (codes "same ") ∷ operand_pieces left ++ Say (codes " ") ∷ operand_pieces right
-command_pieces Gc = Say (codes "gc") ∷ []
+command_pieces command = spaced_pieces (form_of command)
 
 -- the line of a command, without its LF
 abbrev pub command_text : Command → List ℕ
 command_text command = text_of_pieces (command_pieces command)
 
--- the operand has a line; that the place of a stack word is below 2 ^ 64 comes with the pieces
+-- the operand can be written: a root by an ident, and the place of a stack word below 2 ^ 64
 abbrev pub IsWritableOperand : Operand → Type 0
 IsWritableOperand (Root name) = IsIdent name
-IsWritableOperand (Word place) = Unit {0}
+IsWritableOperand (Word place) = place < 2 ^ 64
 
--- the value has a line: a small integer is below 2 ^ 62
+-- the value can be written: a small integer has a word
 abbrev pub IsWritableInput : Input → Type 0
 IsWritableInput (From operand) = IsWritableOperand operand
 IsWritableInput Nil = Unit {0}
-IsWritableInput (Small number) = number < 2 ^ 62
+IsWritableInput (Small number) = IsSmallInteger number
 
--- the command is in the grammar; that a field count is below 2 ^ 64 comes with the pieces
+-- the word can be written: an ident, and a number below 2 ^ 64
+abbrev pub IsWritableWord : FormWord → Type 0
+IsWritableWord (Exactly text) = Unit {0}
+IsWritableWord (IdentWord ident) = IsIdent ident
+IsWritableWord (Decimal number) = number < 2 ^ 64
+IsWritableWord (Base16 number) = number < 2 ^ 64
+IsWritableWord (OperandWord operand) = IsWritableOperand operand
+IsWritableWord (InputWord value) = IsWritableInput value
+
+-- each of the words can be written
+abbrev pub AreWritable : List FormWord → Type 0
+AreWritable [] = Unit {0}
+AreWritable (word ∷ words) = IsWritableWord word × AreWritable words
+
+-- some line is the command
 abbrev pub IsWritable : Command → Type 0
-IsWritable (New root fields guard style) = IsIdent root × (guard ≡ Protected) × (style ≡ Movable)
-IsWritable (Set root value) = IsIdent root × IsWritableInput value
-IsWritable (DropRoot root) = IsIdent root
-IsWritable (Push value) = IsWritableInput value
-IsWritable (Raw word) = word < 2 ^ 64
-IsWritable Pop = Unit {0}
-IsWritable (Store object index value) = IsWritableOperand object × (index < 2 ^ 64) × IsWritableInput value
-IsWritable (Load root object index) = IsIdent root × IsWritableOperand object × (index < 2 ^ 64)
-IsWritable (Same left right) = IsWritableOperand left × IsWritableOperand right
-IsWritable Gc = Unit {0}
+IsWritable command = AreWritable (form_of command) × HasLine command

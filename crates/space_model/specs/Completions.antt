@@ -3,11 +3,10 @@ use Rattle.std.specs.Prelude.{◌≡◌, ℕ, List, []}
 use Rattle.space_model.specs.declared.event.Event.{Event}
 use Rattle.space_model.specs.declared.phase.Phase.{Phase}
 use Rattle.space_model.specs.declared.phase.Phase.TheVariants.{Idle, Marking, Sweeping, Moving, Fixing}
-use Rattle.space_model.specs.Collections.{SweepAll}
+use Rattle.space_model.specs.Sweeps.{SweepAll}
 use Rattle.space_model.specs.State.{State}
 
--- by the phase: pages that wait are swept. No command begins a marking or a compaction yet; how these are completed comes with the
--- commands that begin them
+-- by the phase: pages that wait are swept. Until a command begins a marking or a compaction, there is none to complete
 abbrev pub CompletesIn : Phase → State → List Event → State → Type 0
 CompletesIn Idle s events t = (events ≡ []) × (t ≡ s)
 CompletesIn Marking s events t = ⊥

@@ -9,10 +9,13 @@ use Rattle.space_model.specs.declared.command.Input.{Input}
 use Rattle.space_model.specs.declared.command.Input.TheVariants.{From, Nil, Small}
 use Rattle.space_model.specs.declared.command.Operand.{Operand}
 use Rattle.space_model.specs.declared.command.Operand.TheVariants.{Root, Word}
-use Rattle.space_model.specs.declared.object.Guard.TheVariants.{Protected}
-use Rattle.space_model.specs.declared.object.Style.TheVariants.{Movable}
+use Rattle.space_model.specs.declared.object.Guard.{Guard}
+use Rattle.space_model.specs.declared.object.Guard.TheVariants.{Protected, Unprotected}
+use Rattle.space_model.specs.declared.object.Style.{Style}
+use Rattle.space_model.specs.declared.object.Style.TheVariants.{Movable, Keeping}
 use Rattle.space_model.specs.Idents.{IsIdent}
-use Rattle.space_model.specs.Lines.{lines_of, MOST_BYTES}
+use Rattle.space_model.specs.Lines.{lines_of, most_line_bytes}
+use Rattle.space_model.specs.Words.{IsSmallInteger}
 
 -- the line without one CR at its end
 abbrev pub without_cr : List ℕ → List ℕ
@@ -50,34 +53,68 @@ abbrev pub IsOperand : List ℕ → Operand → Type 0
 IsOperand word (Root name) = (word ≡ name) × IsIdent name
 IsOperand word (Word place) = (digits : List ℕ) × (word ≡ 64 ∷ digits) × IsNumber digits place
 
--- the word is a value: an operand, `nil`, or `=` and a small number
+-- the word is a value: an operand, `nil`, or `=` and a small integer
 abbrev pub IsInput : List ℕ → Input → Type 0
 IsInput word (From operand) = IsOperand word operand
 IsInput word Nil = word ≡ codes "nil"
-IsInput word (Small number) = (digits : List ℕ) × (word ≡ 61 ∷ digits) × IsNumber digits number × (number < 2 ^ 62)
+IsInput word (Small number) = (digits : List ℕ) × (word ≡ 61 ∷ digits) × IsNumber digits number × IsSmallInteger number
+
+-- a word of a form: fixed bytes, or what the command is given there
+pub data FormWord : Type 0 where
+  Exactly : (text : List ℕ) → FormWord
+  IdentWord : (ident : List ℕ) → FormWord
+  Decimal : (number : ℕ) → FormWord
+  Base16 : (number : ℕ) → FormWord
+  OperandWord : (operand : Operand) → FormWord
+  InputWord : (value : Input) → FormWord
+
+-- `P` or `U`
+abbrev pub guard_word : Guard → List ℕ
+guard_word Protected = codes "P"
+guard_word Unprotected = codes "U"
+
+-- `M` or `K`
+abbrev pub style_word : Style → List ℕ
+style_word Movable = codes "M"
+style_word Keeping = codes "K"
+
+-- the words of a command: one row a form
+abbrev pub form_of : Command → List FormWord
+form_of (New root fields guard style) =
+    Exactly (codes "new") ∷ IdentWord root ∷ Decimal fields ∷ Exactly (guard_word guard) ∷ Exactly (style_word style) ∷ []
+form_of (Set root value) = Exactly (codes "set") ∷ IdentWord root ∷ InputWord value ∷ []
+form_of (DropRoot root) = Exactly (codes "drop") ∷ IdentWord root ∷ []
+form_of (Push value) = Exactly (codes "push") ∷ InputWord value ∷ []
+form_of (Raw word) = Exactly (codes "raw") ∷ Base16 word ∷ []
+form_of Pop = Exactly (codes "pop") ∷ []
+form_of (Store object index value) = Exactly (codes "store") ∷ OperandWord object ∷ Decimal index ∷ InputWord value ∷ []
+form_of (Load root object index) = Exactly (codes "load") ∷ IdentWord root ∷ OperandWord object ∷ Decimal index ∷ []
+form_of (Same left right) = Exactly (codes "same") ∷ OperandWord left ∷ OperandWord right ∷ []
+form_of Gc = Exactly (codes "gc") ∷ []
+
+-- the text is this word
+abbrev pub IsFormWord : List ℕ → FormWord → Type 0
+IsFormWord text (Exactly word) = text ≡ word
+IsFormWord text (IdentWord ident) = (text ≡ ident) × IsIdent ident
+IsFormWord text (Decimal number) = IsNumber text number
+IsFormWord text (Base16 number) = IsHex text number
+IsFormWord text (OperandWord operand) = IsOperand text operand
+IsFormWord text (InputWord value) = IsInput text value
+
+-- the texts are these words, one by one
+abbrev pub AreFormWords : List (List ℕ) → List FormWord → Type 0
+AreFormWords texts [] = texts ≡ []
+AreFormWords texts (word ∷ words) =
+    (text : List ℕ) × (others : List (List ℕ)) × (texts ≡ text ∷ others) × IsFormWord text word × AreFormWords others words
+
+-- the command has a line: so far `new` makes objects that the write barrier protects, and whose children may be moved
+abbrev pub HasLine : Command → Type 0
+HasLine (New root fields guard style) = (guard ≡ Protected) × (style ≡ Movable)
+HasLine _ = Unit {0}
 
 -- the words are a command
 abbrev pub IsCommand : List (List ℕ) → Command → Type 0
-IsCommand words (New root fields guard style) =
-    (digits : List ℕ) × (words ≡ codes "new" ∷ root ∷ digits ∷ codes "P" ∷ codes "M" ∷ []) × IsIdent root × IsNumber digits fields × (guard ≡ Protected) × (style ≡ Movable)
-IsCommand words (Set root value) =
-    (v : List ℕ) × (words ≡ codes "set" ∷ root ∷ v ∷ []) × IsIdent root × IsInput v value
-IsCommand words (DropRoot root) =
-    (words ≡ codes "drop" ∷ root ∷ []) × IsIdent root
-IsCommand words (Push value) =
-    (v : List ℕ) × (words ≡ codes "push" ∷ v ∷ []) × IsInput v value
-IsCommand words (Raw word) =
-    (digits : List ℕ) × (words ≡ codes "raw" ∷ digits ∷ []) × IsHex digits word
-IsCommand words Pop =
-    words ≡ codes "pop" ∷ []
-IsCommand words (Store object index value) =
-    (a : List ℕ) × (digits : List ℕ) × (v : List ℕ) × (words ≡ codes "store" ∷ a ∷ digits ∷ v ∷ []) × IsOperand a object × IsNumber digits index × IsInput v value
-IsCommand words (Load root object index) =
-    (a : List ℕ) × (digits : List ℕ) × (words ≡ codes "load" ∷ root ∷ a ∷ digits ∷ []) × IsIdent root × IsOperand a object × IsNumber digits index
-IsCommand words (Same left right) =
-    (a : List ℕ) × (b : List ℕ) × (words ≡ codes "same" ∷ a ∷ b ∷ []) × IsOperand a left × IsOperand b right
-IsCommand words Gc =
-    words ≡ codes "gc" ∷ []
+IsCommand words command = AreFormWords words (form_of command) × HasLine command
 
 -- a line that is no command and has no answer: it is empty, or begins with `;`
 abbrev pub IsBlank : List ℕ → Type 0
@@ -93,7 +130,8 @@ IsReading line (Some command) = IsCommand (words_of (without_cr line)) command
 abbrev pub AreCommands : List (List ℕ) → List Command → Type 0
 AreCommands [] commands = commands ≡ []
 AreCommands (line ∷ lines) commands =
-    (found : Option Command) × (rest : List Command) × (length line ≤ MOST_BYTES) × IsReading line found × (commands ≡ option_to_list found ++ rest) × AreCommands lines rest
+    (found : Option Command) × (rest : List Command) × (length line ≤ most_line_bytes) × IsReading line found
+    × (commands ≡ option_to_list found ++ rest) × AreCommands lines rest
 
 -- the commands of the bytes of an input
 abbrev pub Commands : List ℕ → List Command → Type 0

@@ -1,5 +1,5 @@
--- The graph of all objects that were ever born. Names are 1, 2, 3 in the order of birth; no object is ever taken away.
-use Rattle.std.specs.Prelude.{◌≡◌, ℕ, ◌-◌, true, List, [], ◌∷◌, nat_eq, slice_index_or}
+-- The graph of all objects that were ever allocated. Names are 1, 2, 3 in the order of allocation; no object is ever taken away.
+use Rattle.std.specs.Prelude.{◌≡◌, ℕ, zero, suc, true, List, [], ◌∷◌, nat_eq, slice_index_or, slice_set}
 use Rattle.std.specs.List.{flat_map}
 use Rattle.std.specs.Set.{is_member}
 use Rattle.space_model.specs.declared.object.Guard.{Guard}
@@ -9,19 +9,25 @@ use Rattle.space_model.specs.declared.object.Style.TheVariants.{Movable}
 use Rattle.space_model.specs.declared.value.Value.{Value}
 use Rattle.space_model.specs.declared.value.Value.TheVariants.{Nil, Small, Name}
 
--- an object that was born, with the values of its fields
+-- an object: whether the write barrier protects it now, its style, and the values of its fields now
 pub record Item : Type 0 where
   pub guard : Guard
   pub style : Style
   pub values : List Value
 
--- what stands for the item of a name that was never born
+-- what stands for the item of a name that no object has
 abbrev pub no_item : Item
 no_item = record { guard = Protected; style = Movable; values = [] }
 
--- the item of a name, which is 1 or more
+-- the item of a name: that of the name 1 comes first, and 0 is no name
 abbrev pub item_of : List Item → ℕ → Item
-item_of graph name = slice_index_or graph (name - 1) no_item
+item_of graph zero = no_item
+item_of graph (suc index) = slice_index_or graph index no_item
+
+-- the graph with this item for the name; 0 is no name
+abbrev pub with_item : List Item → ℕ → Item → List Item
+with_item graph zero item = graph
+with_item graph (suc index) item = slice_set graph index item
 
 -- the name that a value is, if it is one
 abbrev pub names_of : Value → List ℕ

@@ -3,33 +3,46 @@ use Rattle.std.specs.Prelude.{◌≡◌, List, [], ◌∷◌, ◌++◌, map}
 use Rattle.space_model.specs.declared.command.Command.{Command}
 use Rattle.space_model.specs.declared.command.Command.TheVariants.{New, Set, DropRoot, Push, Raw, Pop, Store, Load, Same, Gc}
 use Rattle.space_model.specs.declared.event.Event.{Event}
+use Rattle.space_model.specs.declared.event.Kind.TheVariants.{Full}
 use Rattle.space_model.specs.declared.reply.Reply.{Reply}
-use Rattle.space_model.specs.Answers.{Sets, DropsRoot, Stores, Loads, Compares}
-use Rattle.space_model.specs.New.{News}
+use Rattle.space_model.specs.RootCommands.{Sets, DropsRoot, Loads}
+use Rattle.space_model.specs.ObjectCommands.{Stores, Compares}
+use Rattle.space_model.specs.Collections.{Collects}
+use Rattle.space_model.specs.NewCommand.{AnswersNew}
 use Rattle.space_model.specs.Outputs.{Output, Told, Replied}
-use Rattle.space_model.specs.StackAnswers.{Pushes, Raws, Pops}
+use Rattle.space_model.specs.StackCommands.{Pushes, PushesWord, Pops}
 use Rattle.space_model.specs.State.{State}
-use Rattle.space_model.specs.WholeCollections.{Collects}
 
--- the events and the reply of a command, and the state after it
-abbrev pub Effects : State → Command → List Event → Reply → State → Type 0
-Effects s (New root fields guard style) events reply t = News s root fields guard style events reply t
-Effects s (Set root value) events reply t = (events ≡ []) × Sets s root value reply t
-Effects s (DropRoot root) events reply t = (events ≡ []) × DropsRoot s root reply t
-Effects s (Push value) events reply t = (events ≡ []) × Pushes s value reply t
-Effects s (Raw word) events reply t = (events ≡ []) × Raws s word reply t
-Effects s Pop events reply t = (events ≡ []) × Pops s reply t
-Effects s (Store object index value) events reply t = (events ≡ []) × Stores s object index value reply t
-Effects s (Load root object index) events reply t = (events ≡ []) × Loads s root object index reply t
-Effects s (Same left right) events reply t = (events ≡ []) × Compares s left right reply t
-Effects s Gc events reply t = Collects s events reply t
+-- the reply of a command without events, and the state after it; of a command with events it never holds
+abbrev pub Replies : State → Command → Reply → State → Type 0
+Replies s (Set root value) reply t = Sets s root value reply t
+Replies s (DropRoot root) reply t = DropsRoot s root reply t
+Replies s (Push value) reply t = Pushes s value reply t
+Replies s (Raw word) reply t = PushesWord s word reply t
+Replies s Pop reply t = Pops s reply t
+Replies s (Store object index value) reply t = Stores s object index value reply t
+Replies s (Load root object index) reply t = Loads s root object index reply t
+Replies s (Same left right) reply t = Compares s left right reply t
+Replies s _ reply t = ⊥
 
--- the outputs are lawful for the command in the state s: events and then a reply, and t is the state after them
+-- the outputs are one reply, of which this holds
+pub record IsOneReply (Is : Reply → Type 0) (answer : List Output) : Type 0 where
+  pub reply : Reply
+  pub answer_is : answer ≡ Replied reply ∷ []
+  pub is : Is reply
+
+-- the events of a command, its outputs after them, and the state after it
+abbrev pub Effects : State → Command → List Event → List Output → State → Type 0
+Effects s (New root fields guard style) events answer t = IsOneReply (λ reply. AnswersNew s root fields guard style events reply t) answer
+Effects s Gc events answer t = IsOneReply (λ reply. Collects s Full events reply t) answer
+Effects s command events answer t = (events ≡ []) × IsOneReply (λ reply. Replies s command reply t) answer
+
+-- the outputs are lawful for the command in the state s: its events and then its answer, and t is the state after them
 pub record Lawful (s : State) (command : Command) (outputs : List Output) (t : State) : Type 0 where
   pub events : List Event
-  pub reply : Reply
-  pub outputs_are : outputs ≡ map Told events ++ Replied reply ∷ []
-  pub effects : Effects s command events reply t
+  pub answer : List Output
+  pub outputs_are : outputs ≡ map Told events ++ answer
+  pub effects : Effects s command events answer t
 
 -- the outputs of a list of commands, each from the state after the one before
 abbrev pub LawfulAll : State → List Command → List Output → State → Type 0

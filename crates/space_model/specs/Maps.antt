@@ -1,5 +1,5 @@
--- Maps from names to addresses: the names at an address, names in ascending order, a map without some names, and names that go over to
--- another map.
+-- Maps from names to addresses: the names at an address, names in ascending order, a map without some names, and names that are carried
+-- over to another map.
 use Rattle.std.specs.Prelude.{ℕ, ◌<◌, ◌==◌, not, Bool, false, List, [], ◌∷◌, nat_eq, Option, None, Some, unwrap_or}
 use Rattle.std.specs.List.{AllPairs, filter}
 use Rattle.std.specs.Ordering.{nat_cmp}
@@ -28,6 +28,6 @@ abbrev pub without : FinMap nat_cmp ℕ → List ℕ → FinMap nat_cmp ℕ
 without map names = retain_keys map (λ name. not (is_member nat_eq names name))
 
 -- the second map, and the names with their addresses in the first
-unfoldable pub moved_over : FinMap nat_cmp ℕ → FinMap nat_cmp ℕ → List ℕ → FinMap nat_cmp ℕ
-moved_over from to [] = to
-moved_over from to (name ∷ names) = insert (moved_over from to names) name (address_in from name)
+unfoldable pub carried_over : FinMap nat_cmp ℕ → FinMap nat_cmp ℕ → List ℕ → FinMap nat_cmp ℕ
+carried_over from to [] = to
+carried_over from to (name ∷ names) = insert (carried_over from to names) name (address_in from name)

@@ -1,4 +1,4 @@
--- What a command writes: its events, and then its reply.
+-- What a command writes: its events, and then its answer.
 use Rattle.std.specs.Prelude.{ℕ, List, [], ◌∷◌, ◌++◌}
 use Rattle.space_model.specs.declared.event.Event.{Event}
 use Rattle.space_model.specs.declared.event.Event.TheVariants.{Gone}

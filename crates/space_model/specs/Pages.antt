@@ -1,5 +1,5 @@
 -- Pages, their pools, and what stands on them.
-use Rattle.std.specs.Prelude.{ℕ, ◌==◌, Bool, false, List, [], ◌∷◌, ◌++◌, length, nat_lt, slice_index_or, slice_set, Option, None, Some, is_some, if◌then◌else◌}
+use Rattle.std.specs.Prelude.{◌≡◌, ℕ, ◌==◌, Bool, false, List, [], ◌∷◌, ◌++◌, length, nat_lt, slice_index_or, slice_set, Option, None, Some, is_some, if◌then◌else◌}
 use Rattle.std.specs.List.{filter, list_any, range_with_len}
 use Rattle.std.specs.Ordering.{nat_cmp}
 use Rattle.std.specs.FinMap.{FinMap, get, keys}
@@ -16,6 +16,10 @@ with_pool pages page pool = if nat_lt page (length pages) then slice_set pages p
 -- the numbers of the pages that have a pool, ascending
 unfoldable pub pool_pages : List (Option ℕ) → List ℕ
 pool_pages pages = filter (λ page. is_some (pool_at pages page)) (range_with_len 0 (length pages))
+
+-- the address of the name in the map is on the page
+abbrev pub StandsOn : FinMap nat_cmp ℕ → ℕ → ℕ → Type 0
+StandsOn map page name = (address : ℕ) × (get map name ≡ Some address) × (page_of address ≡ page)
 
 -- whether there is an address, and it is on the page
 abbrev pub is_on : ℕ → Option ℕ → Bool

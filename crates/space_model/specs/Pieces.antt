@@ -1,18 +1,18 @@
--- The state after a piece of work: a birth, a root or a field written, a root taken away, another stack. What is reached is noted
--- after each.
-use Rattle.std.specs.Prelude.{◌≡◌, ℕ, ◌+◌, ◌-◌, ◌&&◌, not, List, [], ◌∷◌, ◌++◌, length, replicate, nat_eq, slice_set}
-use Rattle.std.specs.List.{filter}
+-- The state after a piece of work: an object allocated, a root or a field written, a root taken away, another stack. What is reached is
+-- noted after each.
+use Rattle.std.specs.Prelude.{◌≡◌, ℕ, ◌+◌, List, [], ◌∷◌, ◌++◌, length, replicate, slice_set}
 use Rattle.std.specs.FinMap.{insert}
 use Rattle.space_model.specs.declared.object.Guard.{Guard}
 use Rattle.space_model.specs.declared.object.Style.{Style}
 use Rattle.space_model.specs.declared.value.Value.{Value}
 use Rattle.space_model.specs.declared.value.Value.TheVariants.{Nil, Name}
-use Rattle.space_model.specs.Graph.{Item, item_of}
+use Rattle.space_model.specs.Graph.{Item, item_of, with_item}
 use Rattle.space_model.specs.Layout.{page_of, pool_for}
 use Rattle.space_model.specs.Moments.{noted}
 use Rattle.space_model.specs.Pages.{with_pool}
 use Rattle.space_model.specs.Roots.{with_root, without_root}
 use Rattle.space_model.specs.State.{State}
+use Rattle.space_model.specs.StoredWords.{without_pair}
 
 -- an object whose fields are nil
 abbrev pub new_item : Guard → Style → ℕ → Item
@@ -30,45 +30,45 @@ born s root fields guard style address = record s {
   collector = record s.collector { outlived = s.collector.outlived ++ 0 ∷ [] };
 }
 
--- t is the state after this birth, with what is reached noted
+-- t is the state after this allocation, with what is reached noted
 abbrev pub Born : State → List ℕ → ℕ → Guard → Style → ℕ → State → Type 0
 Born s root fields guard style address t = t ≡ noted (born s root fields guard style address)
 
 -- the root holds the value
-abbrev pub rooted : State → List ℕ → Value → State
-rooted s root value = record s { roots = with_root s.roots root value }
+abbrev pub root_written : State → List ℕ → Value → State
+root_written s root value = record s { roots = with_root s.roots root value }
 
 -- t is the state after the root holds the value, with what is reached noted
-abbrev pub Rooted : State → List ℕ → Value → State → Type 0
-Rooted s root value t = t ≡ noted (rooted s root value)
+abbrev pub RootWritten : State → List ℕ → Value → State → Type 0
+RootWritten s root value t = t ≡ noted (root_written s root value)
 
 -- the root is taken away
-abbrev pub unrooted : State → List ℕ → State
-unrooted s root = record s { roots = without_root s.roots root }
+abbrev pub root_dropped : State → List ℕ → State
+root_dropped s root = record s { roots = without_root s.roots root }
 
 -- t is the state after the root is taken away, with what is reached noted
-abbrev pub Unrooted : State → List ℕ → State → Type 0
-Unrooted s root t = t ≡ noted (unrooted s root)
+abbrev pub RootDropped : State → List ℕ → State → Type 0
+RootDropped s root t = t ≡ noted (root_dropped s root)
 
 -- the stack has these words
-abbrev pub stacked : State → List ℕ → State
-stacked s words = record s { stack = words }
+abbrev pub stack_replaced : State → List ℕ → State
+stack_replaced s words = record s { stack = words }
 
 -- t is the state after the stack has these words, with what is reached noted
-abbrev pub Stacked : State → List ℕ → State → Type 0
-Stacked s words t = t ≡ noted (stacked s words)
+abbrev pub StackReplaced : State → List ℕ → State → Type 0
+StackReplaced s words t = t ≡ noted (stack_replaced s words)
 
 -- the item after one of its fields is written
-abbrev pub item_stored : Item → ℕ → Value → Item
-item_stored item index value = record item { values = slice_set item.values index value }
+abbrev pub item_written : Item → ℕ → Value → Item
+item_written item index value = record item { values = slice_set item.values index value }
 
--- the field of the name holds the value, and its word is stale no more
-abbrev pub stored : State → ℕ → ℕ → Value → State
-stored s name index value = record s {
-  graph = slice_set s.graph (name - 1) (item_stored (item_of s.graph name) index value);
-  collector = record s.collector { stale = filter (λ pair. not (nat_eq pair.0 name && nat_eq pair.1 index)) s.collector.stale };
+-- the field of the name holds the value, and is stale no more
+abbrev pub field_written : State → ℕ → ℕ → Value → State
+field_written s name index value = record s {
+  graph = with_item s.graph name (item_written (item_of s.graph name) index value);
+  collector = record s.collector { stale = without_pair s.collector.stale name index };
 }
 
 -- t is the state after the field holds the value, with what is reached noted
-abbrev pub Stored : State → ℕ → ℕ → Value → State → Type 0
-Stored s name index value t = t ≡ noted (stored s name index value)
+abbrev pub FieldWritten : State → ℕ → ℕ → Value → State → Type 0
+FieldWritten s name index value t = t ≡ noted (field_written s name index value)

@@ -1,7 +1,10 @@
--- How refusals are found: over all operands, and by one order, never from left to right.
-use Rattle.std.specs.Prelude.{ℕ, nat_le, if◌then◌else◌, Result, Ok, Err}
+-- How refusals are found: over all operands, and by one order, never from left to right; and that a refused command changes nothing.
+use Rattle.std.specs.Prelude.{◌≡◌, ℕ, nat_le, if◌then◌else◌, Result, Ok, Err}
 use Rattle.space_model.specs.declared.reply.Refusal.{Refusal}
 use Rattle.space_model.specs.declared.reply.Refusal.TheVariants.{TooLarge, NoRoot, NoWord, NotObject, NoField}
+use Rattle.space_model.specs.declared.reply.Reply.{Reply}
+use Rattle.space_model.specs.declared.reply.Reply.TheVariants.{Refused}
+use Rattle.space_model.specs.State.{State}
 
 -- the place of a refusal in the one order
 abbrev pub rank : Refusal → ℕ
@@ -26,3 +29,8 @@ both (Err why) (Err other) = Err (first_refusal why other)
 abbrev pub and_then : {A B : Type 0} → Result A Refusal → (A → Result B Refusal) → Result B Refusal
 and_then (Ok x) f = f x
 and_then (Err why) f = Err why
+
+-- the command was refused, and the state is as it was
+pub record Refuses (s : State) (why : Refusal) (reply : Reply) (t : State) : Type 0 where
+  pub reply_is : reply ≡ Refused why
+  pub unchanged : t ≡ s

@@ -1,5 +1,6 @@
--- What holds of every state that comes: the opening is sound, and each lawful command that is given integers below 2 ^ 62 keeps it so.
-use Rattle.std.specs.Prelude.{◌≡◌, ◌≢◌, ℕ, ◌^◌, ◌<◌, ◌≤◌, true, false, List, [], ◌∷◌, length, nat_eq, None, Some, Option, is_some}
+-- What holds of every state that a trace leads to, in each phase: the opening is sound, and each lawful command that a line can give
+-- keeps it so.
+use Rattle.std.specs.Prelude.{◌≡◌, ◌≢◌, ℕ, ◌<◌, ◌≤◌, true, false, List, [], ◌∷◌, length, nat_eq, None, Some, Option, is_some, slice_get}
 use Rattle.std.specs.List.{AllPairs, IsDistinct}
 use Rattle.std.specs.Ordering.{nat_cmp}
 use Rattle.std.specs.Set.{is_member}
@@ -9,29 +10,21 @@ use Rattle.space_model.specs.declared.phase.Phase.TheVariants.{Sweeping, Moving,
 use Rattle.space_model.specs.declared.value.Value.{Value}
 use Rattle.space_model.specs.declared.value.Value.TheVariants.{Nil, Small, Name}
 use Rattle.space_model.specs.Graph.{Item, item_of, IsChild}
-use Rattle.space_model.specs.Layout.{slot_address, page_slots, page_of, pool_for}
-use Rattle.space_model.specs.Moments.{parents_of_young}
+use Rattle.space_model.specs.Idents.{IsIdent}
+use Rattle.space_model.specs.Layout.{most_fields, page_of}
+use Rattle.space_model.specs.Moments.{mixed_names}
 use Rattle.space_model.specs.Pages.{pool_at, is_used}
+use Rattle.space_model.specs.Places.{pool_of, IsSlot}
 use Rattle.space_model.specs.Reach.{Reach}
-use Rattle.space_model.specs.Roots.{Root, root_names}
+use Rattle.space_model.specs.Roots.{Root, root_value, root_names}
 use Rattle.space_model.specs.State.{State}
+use Rattle.space_model.specs.StoredWords.{is_stale}
+use Rattle.space_model.specs.Words.{IsSmallInteger}
 
--- the pool of a name
-abbrev pub pool_of : List Item → ℕ → ℕ
-pool_of graph name = pool_for (length (item_of graph name).values)
-
--- the address is the start of a slot of a page of the name's pool
-pub record IsSlotOf (graph : List Item) (pages : List (Option ℕ)) (name address : ℕ) : Type 0 where
-  pub page : ℕ
-  pub slot : ℕ
-  pub has_pool : pool_at pages page ≡ Some (pool_of graph name)
-  pub on_page : slot < page_slots (pool_of graph name)
-  pub is : address ≡ slot_address page (pool_of graph name) slot
-
--- the map has born names, each at a slot of its own
+-- the map has names that were allocated, each at a slot of its own
 pub record AreSlots (graph : List Item) (pages : List (Option ℕ)) (map : FinMap nat_cmp ℕ) : Type 0 where
-  pub born : (name address : ℕ) → get map name ≡ Some address → (0 < name) × (name ≤ length graph)
-  pub at : (name address : ℕ) → get map name ≡ Some address → IsSlotOf graph pages name address
+  pub allocated : (name address : ℕ) → get map name ≡ Some address → (0 < name) × (name ≤ length graph)
+  pub at : (name address : ℕ) → get map name ≡ Some address → IsSlot pages (pool_of graph name) address
   pub once : (name other address : ℕ) → get map name ≡ Some address → get map other ≡ Some address → name ≡ other
 
 -- objects stand at slots, and there are no more pages than may be
@@ -39,9 +32,9 @@ pub record SoundLayout (graph : List Item) (place : FinMap nat_cmp ℕ) (pages :
   pub placed : AreSlots graph pages place
   pub limited : length pages ≤ limit
 
--- corpses are born names that aren't present. They lie at slots of their own where nothing stands, on pages that wait for a sweep
+-- corpses are names that were allocated and aren't present. They lie at slots of their own where nothing stands, on pages that wait for a sweep
 pub record SoundCorpses (graph : List Item) (place corpses : FinMap nat_cmp ℕ) (pages : List (Option ℕ)) (unswept : List ℕ) : Type 0 where
-  pub buried : AreSlots graph pages corpses
+  pub slots : AreSlots graph pages corpses
   pub gone : (name address : ℕ) → get corpses name ≡ Some address → get place name ≡ None
   pub apart : (name other address : ℕ) → get place name ≡ Some address → get corpses other ≡ Some address → ⊥
   pub on_unswept : (name address : ℕ) → get corpses name ≡ Some address → is_member nat_eq unswept (page_of address) ≡ true
@@ -56,39 +49,68 @@ pub record SoundSweep (phase : Phase) (pages : List (Option ℕ)) (unswept : Lis
 -- outside a compaction an object stands on each page that has a pool and doesn't wait for a sweep
 abbrev pub SoundUsed : Phase → List (Option ℕ) → List ℕ → FinMap nat_cmp ℕ → Type 0
 SoundUsed phase pages unswept place =
-    phase ≢ Moving → phase ≢ Fixing → (page : ℕ) → is_some (pool_at pages page) ≡ true → is_member nat_eq unswept page ≡ false → is_used place page ≡ true
+    phase ≢ Moving → phase ≢ Fixing → (page : ℕ) → is_some (pool_at pages page) ≡ true → is_member nat_eq unswept page ≡ false →
+    is_used place page ≡ true
+
+-- outside a compaction no address is left behind and no field is stale
+abbrev pub SoundResting : Phase → FinMap nat_cmp ℕ → List (ℕ × ℕ) → Type 0
+SoundResting phase left stale = phase ≢ Moving → phase ≢ Fixing → (left ≡ empty) × (stale ≡ [])
+
+-- the cursor is 0 outside Fixing
+abbrev pub SoundCursor : Phase → ℕ → Type 0
+SoundCursor phase cursor = phase ≢ Fixing → cursor ≡ 0
+
+-- names that left an address are present. The addresses that they left are slots of their own, where nothing stands and nothing lies
+pub record SoundLeft (graph : List Item) (place corpses left : FinMap nat_cmp ℕ) (pages : List (Option ℕ)) : Type 0 where
+  pub slots : AreSlots graph pages left
+  pub present : (name : ℕ) → is_some (get left name) ≡ true → is_some (get place name) ≡ true
+  pub apart : (name other address : ℕ) → get place name ≡ Some address → get left other ≡ Some address → ⊥
+  pub apart_corpses : (name other address : ℕ) → get corpses name ≡ Some address → get left other ≡ Some address → ⊥
+
+-- the field of a present name holds a name that left its address
+pub record IsStaleField (graph : List Item) (place left : FinMap nat_cmp ℕ) (name index : ℕ) : Type 0 where
+  pub present : is_some (get place name) ≡ true
+  pub child : ℕ
+  pub holds : slice_get (item_of graph name).values index ≡ Some (Name child)
+  pub was_left : is_some (get left child) ≡ true
+
+-- each stale pair is such a field, and no object with a stale field stands below the cursor
+pub record SoundStale (graph : List Item) (place left : FinMap nat_cmp ℕ) (stale : List (ℕ × ℕ)) (cursor : ℕ) : Type 0 where
+  pub fields : (name index : ℕ) → is_stale stale name index ≡ true → IsStaleField graph place left name index
+  pub unvisited : (name index address : ℕ) → is_stale stale name index ≡ true → get place name ≡ Some address → cursor ≤ address
 
 -- what is present has present children, and roots hold what is present
 pub record SoundNames (graph : List Item) (roots : List Root) (place : FinMap nat_cmp ℕ) : Type 0 where
-  pub children_present : (parent name : ℕ) → is_some (get place parent) ≡ true → IsChild graph parent name → is_some (get place name) ≡ true
+  pub children_present : (parent name : ℕ) → is_some (get place parent) ≡ true → IsChild graph parent name →
+      is_some (get place name) ≡ true
   pub roots_present : (name : ℕ) → is_member nat_eq (root_names roots) name ≡ true → is_some (get place name) ≡ true
 
--- the reached names are in `seen`, each once, and the parents of the young are in `mixed`
+-- the reached names are in `seen`, each once, and the names with a child that isn't old are in `mixed`
 pub record SoundMoments (s : State) : Type 0 where
   pub seen : (name : ℕ) → Reach s name → is_member nat_eq s.history.seen name ≡ true
   pub once : IsDistinct nat_eq s.history.seen
-  pub mixed : (name : ℕ) → is_member nat_eq (parents_of_young s) name ≡ true → is_member nat_eq s.history.mixed name ≡ true
+  pub mixed : (name : ℕ) → is_member nat_eq (mixed_names s) name ≡ true → is_member nat_eq s.history.mixed name ≡ true
 
--- a small integer is below 2 ^ 62
+-- a small integer has a word
 abbrev pub IsSmall : Value → Type 0
 IsSmall Nil = Unit {0}
-IsSmall (Small number) = number < 2 ^ 62
+IsSmall (Small number) = IsSmallInteger number
 IsSmall (Name name) = Unit {0}
 
--- each small integer of the values is below 2 ^ 62
+-- each small integer of the values has a word
 abbrev pub AreSmall : List Value → Type 0
 AreSmall [] = Unit {0}
 AreSmall (value ∷ values) = IsSmall value × AreSmall values
 
--- an object has no more fields than the last pool's slots have room for, and the integers that they hold are small
+-- an object has no more fields than the last pool's slots have room for, and each small integer that they hold has a word
 abbrev pub AreSoundItems : List Item → Type 0
 AreSoundItems [] = Unit {0}
-AreSoundItems (item ∷ items) = (length item.values ≤ 78) × AreSmall item.values × AreSoundItems items
+AreSoundItems (item ∷ items) = (length item.values ≤ most_fields) × AreSmall item.values × AreSoundItems items
 
--- the integers that roots hold are small
+-- each root's ident is one that a line can name, no two roots have the same, and each small integer that they hold has a word
 abbrev pub AreSoundRoots : List Root → Type 0
 AreSoundRoots [] = Unit {0}
-AreSoundRoots (root ∷ roots) = IsSmall root.1 × AreSoundRoots roots
+AreSoundRoots (root ∷ roots) = IsIdent root.0 × (root_value roots root.0 ≡ None) × IsSmall root.1 × AreSoundRoots roots
 
 -- what holds of the state, part by part
 pub record Sound (s : State) : Type 0 where
@@ -96,10 +118,12 @@ pub record Sound (s : State) : Type 0 where
   pub corpses : SoundCorpses s.graph s.heap.place s.heap.corpses s.heap.pages s.heap.unswept
   pub sweep : SoundSweep s.collector.phase s.heap.pages s.heap.unswept
   pub used : SoundUsed s.collector.phase s.heap.pages s.heap.unswept s.heap.place
-  -- no name has left its address: no command begins a compaction yet
-  pub left : s.heap.left ≡ empty
+  pub resting : SoundResting s.collector.phase s.heap.left s.collector.stale
+  pub cursor : SoundCursor s.collector.phase s.collector.cursor
+  pub left : SoundLeft s.graph s.heap.place s.heap.corpses s.heap.left s.heap.pages
+  pub stale : SoundStale s.graph s.heap.place s.heap.left s.collector.stale s.collector.cursor
   pub names : SoundNames s.graph s.roots s.heap.place
   pub items : AreSoundItems s.graph
   pub roots : AreSoundRoots s.roots
-  pub ages : length s.collector.outlived ≡ length s.graph
+  pub outlived : length s.collector.outlived ≡ length s.graph
   pub moments : SoundMoments s

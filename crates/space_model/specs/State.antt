@@ -9,7 +9,7 @@ use Rattle.space_model.specs.Roots.{Root}
 
 -- where objects stand
 pub record Heap : Type 0 where
-  -- the addresses of the present names: a name that was born and isn't present is gone
+  -- the addresses of the present names: a name that was allocated and isn't present is gone
   pub place : FinMap nat_cmp ℕ
   -- the last addresses of the names that are gone and not swept yet
   pub corpses : FinMap nat_cmp ℕ
@@ -50,7 +50,7 @@ pub record Tables : Type 0 where
   pub finals : List (ℕ × List ℕ)
   pub queue : List (ℕ × List ℕ)
 
--- what was noted since the last marking began; until a marking goes on over commands, `began` and `scanned` stay as at the opening
+-- what was noted since the last marking began
 pub record History : Type 0 where
   -- the names that were reached at some moment
   pub seen : List ℕ
@@ -95,6 +95,6 @@ opening limit = record {
   counters = record { minor_verdicts = 0; other_verdicts = 0; freed = 0; compactions = 0; moves = 0 };
 }
 
--- whether the name is present: it was born and isn't gone
+-- whether the name is present: it was allocated and isn't gone
 abbrev pub is_present : State → ℕ → Bool
 is_present s name = is_some (get s.heap.place name)

@@ -12,8 +12,9 @@ pub record IsStored (bytes : List ℕ) (len : ℕ) : Type 0 where
   pub zeros : bytes ≡ take len bytes ++ replicate (32 - len) 0
   pub ident : IsIdent (take len bytes)
 
--- the text gives the fields back
-pub stored_back : (a : Inside) → IsStored a.bytes a.len → ◌≡◌ {A = Inside} (record { bytes = take a.len a.bytes ++ replicate (32 - length (take a.len a.bytes)) 0; len = length (take a.len a.bytes) }) a
+-- the text gives the fields back: the type cites this proof in its declaration
+pub stored_back : (a : Inside) → IsStored a.bytes a.len →
+    ◌≡◌ {A = Inside} (record { bytes = take a.len a.bytes ++ replicate (32 - length (take a.len a.bytes)) 0; len = length (take a.len a.bytes) }) a
 stored_back a h =
     let long : length (take a.len a.bytes) ≡ a.len = length-take a.len a.bytes ∙ omega (arith, h.size, h.within) in
     let back : take a.len a.bytes ++ replicate (32 - length (take a.len a.bytes)) 0 ≡ a.bytes = rw long (sym h.zeros) in

@@ -1,6 +1,8 @@
--- Which names a verdict may take. That a verdict is given by marking is CRuby's; its order is this project's own.
-use Rattle.std.specs.Prelude.{◌≡◌, ℕ, true, false, List, nat_eq}
+-- Which names a verdict may take, and how it is told. That marking decides is CRuby's; the order of the names is this project's own.
+use Rattle.std.specs.Prelude.{◌≡◌, ℕ, true, false, List, [], ◌∷◌, ◌++◌, length, map, nat_eq}
 use Rattle.std.specs.Set.{is_member}
+use Rattle.space_model.specs.declared.event.Event.{Event}
+use Rattle.space_model.specs.declared.event.Event.TheVariants.{Gone, Verdict}
 use Rattle.space_model.specs.declared.event.Kind.{Kind}
 use Rattle.space_model.specs.declared.event.Kind.TheVariants.{Minor, Major, Full}
 use Rattle.space_model.specs.Graph.{IsChild}
@@ -21,5 +23,10 @@ pub record IsVerdict (s : State) (kind : Kind) (taken : List ℕ) : Type 0 where
   pub present : (name : ℕ) → is_member nat_eq taken name ≡ true → is_present s name ≡ true
   pub rising : IsRising s.heap.place taken
   pub unreached : (name : ℕ) → is_member nat_eq taken name ≡ true → Reach s name → ⊥
-  pub closed : (parent name : ℕ) → is_present s parent ≡ true → is_member nat_eq taken parent ≡ false → IsChild s.graph parent name → is_member nat_eq taken name ≡ false
+  pub closed : (parent name : ℕ) → is_present s parent ≡ true → is_member nat_eq taken parent ≡ false → IsChild s.graph parent name →
+      is_member nat_eq taken name ≡ false
   pub by_kind : TakesBy kind s taken
+
+-- the events of a verdict: each name that it takes, in ascending order of place, and then how many they are
+abbrev pub verdict_events : Kind → List ℕ → List Event
+verdict_events kind taken = map Gone taken ++ Verdict kind (length taken) ∷ []

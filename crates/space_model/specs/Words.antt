@@ -5,7 +5,11 @@ use Rattle.std.specs.Prelude.{◌≡◌, ℕ, ◌+◌, ◌*◌, ◌^◌, ◌<◌
 abbrev pub small_number_word : ℕ → ℕ
 small_number_word number = 2 * number + 1
 
--- the word stands for the small integer: it is its word, and the integer is below 2 ^ 62
+-- the integers that have a word: below 2 ^ 62
+abbrev pub IsSmallInteger : ℕ → Type 0
+IsSmallInteger number = number < 2 ^ 62
+
+-- the word stands for the small integer
 pub record IsSmallWord (word number : ℕ) : Type 0 where
   pub is : word ≡ small_number_word number
-  pub small : number < 2 ^ 62
+  pub small : IsSmallInteger number

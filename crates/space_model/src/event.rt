@@ -3,11 +3,11 @@
 /// Which verdict ends a marking.
 #[derive(Clone, Copy, Debug, PartialEq, Eq)]
 pub enum Kind {
-    /// Of a minor marking.
+    /// It ends a minor marking.
     Minor,
-    /// Of a marking that went on over commands.
+    /// It ends a marking that went on over commands.
     Major,
-    /// Of a whole marking.
+    /// It ends a whole marking.
     Full,
 }
 

@@ -1,5 +1,13 @@
 // Laws of the definitions: functions that do nothing, and promise them.
-ghost use Rattle.space_model.specs.Laws.{ReachHasStarts, ReachIsClosed, ReachIsLeast, ReachIsListed, ReachIsListedOnce, NotingIsDone, NotingStays, OpeningIsSound, LawfulIsSound, LawfulAllIsSound, GivenAreSmall, StartMarkIsSound, TookIsSound, Sweep1IsSound, SweepAllIsSound, SweepAllEnds, SeenAreReached, ReachOutlivesVerdicts, FullLeavesReached, CollectionScansReached, GcLeavesReached, CollectionsKeepGraph, GcIsThere, FullIsFullAt, FullMakesNone, ReachedArePresent, ReachedStay, WordsKeepValues, GoneAreTold, GoneAreToldInOrder, PushedIsTop, NamedIsTold, TextsDiffer};
+ghost use Rattle.space_model.specs.Laws.{ReachHasStarts, ReachIsClosed, ReachIsLeast, ReachIsListed, ReachIsListedOnce, NotingIsDone, NotingStays};
+ghost use Rattle.space_model.specs.Laws.{OpeningIsSound, LawfulIsSound, LawfulAllIsSound, InputsAreGiven};
+ghost use Rattle.space_model.specs.Laws.{StartMarkIsSound, TookIsSound, Sweep1IsSound, SweepsAreSound, SweepAllEnds, CompletesIsSound};
+ghost use Rattle.space_model.specs.Laws.{SeenAreReached, VerdictsReachNoMore, ReachedOutliveVerdicts, FullLeavesReached};
+ghost use Rattle.space_model.specs.Laws.{SweepsKeepPlaces, SweepsKeepReach, CompletesReachNoMore, ReachedOutliveCompletions};
+ghost use Rattle.space_model.specs.Laws.{CollectionScansReached, FullCollectionLeavesReached, CollectionsKeepGraph, GcIsThere};
+ghost use Rattle.space_model.specs.Laws.{FullIsFullAt, FullLeavesReachedBefore, NewMakesNone};
+ghost use Rattle.space_model.specs.Laws.{ReachedArePresent, VisibleIsReached, ReachedIsVisible, ReachedStay, PlacesStay, LimitStays, WordsKeepValues};
+ghost use Rattle.space_model.specs.Laws.{GoneAreTold, GoneAreToldInOrder, GoneAreToldOnce, GoneStayGone, PushedIsTop, NamedIsTold, TextsDiffer};
 
 /// What is reached is the least set, of those that a test decides, that has the starts, and with each name its children.
 pub fn reach_is_least()
@@ -16,57 +24,73 @@ pub fn reach_is_listed()
     ensures stays { NotingStays }
 {}
 
-/// The opening is sound, and each lawful command that is given integers below 2^62 keeps states so, as each line of an input is.
+/// The opening is sound, and each lawful command that is given what a line can give keeps states so, as each line of an input does.
 pub fn states_are_sound()
     ensures opening { OpeningIsSound }
     ensures command { LawfulIsSound }
     ensures commands { LawfulAllIsSound }
-    ensures given { GivenAreSmall }
+    ensures given { InputsAreGiven }
 {}
 
-/// The pieces of a collection keep states sound, and a sweep can always be made.
+/// The pieces of a collection keep states sound, a verdict where no compaction is under way; and a sweep can always be made.
 pub fn collections_are_sound()
     ensures start { StartMarkIsSound }
     ensures took { TookIsSound }
     ensures swept { Sweep1IsSound }
-    ensures swept_all { SweepAllIsSound }
+    ensures sweeps { SweepsAreSound }
     ensures ends { SweepAllEnds }
+    ensures completed { CompletesIsSound }
 {}
 
-/// Verdicts change nothing of what is reached, and a full one leaves nothing else.
+/// A verdict leaves what is reached and makes nothing more so, and a full one leaves nothing else.
 pub fn verdicts_keep_what_is_reached()
     ensures seen { SeenAreReached }
-    ensures outlives { ReachOutlivesVerdicts }
+    ensures no_more { VerdictsReachNoMore }
+    ensures outlives { ReachedOutliveVerdicts }
     ensures exact { FullLeavesReached }
 {}
 
-/// A whole collection can be made, does as many scans as names are reached, leaves nothing else, and changes no field, root or
-/// stack word.
+/// Where what is under way can be completed there is a whole collection. It does as many scans as names are reached after the
+/// completion, leaves nothing else, and changes no field, no stack word, and no root that a line can name. A completion takes
+/// nothing that is reached, and makes nothing more so where no objects are being moved. Sweeps change nothing of it.
 pub fn collections_leave_what_is_reached()
+    ensures places { SweepsKeepPlaces }
+    ensures swept { SweepsKeepReach }
+    ensures completed { CompletesReachNoMore }
+    ensures outlives { ReachedOutliveCompletions }
     ensures scans { CollectionScansReached }
-    ensures leaves { GcLeavesReached }
+    ensures leaves { FullCollectionLeavesReached }
     ensures same { CollectionsKeepGraph }
     ensures possible { GcIsThere }
 {}
 
-/// `new` answers `full` only where the heap is really full for the object's pool.
+/// `new` answers `full` only where the heap is really full for the object's pool. Where it makes no object, whatever it answers, it
+/// changes no field, no stack word, and no root that a line can name.
 pub fn full_is_full()
     ensures full { FullIsFullAt }
-    ensures same { FullMakesNone }
+    ensures leaves { FullLeavesReachedBefore }
+    ensures same { NewMakesNone }
 {}
 
-/// Nothing that is reached goes: it is present, and each command leaves it where it stands. So each word on the stack keeps its
-/// value.
+/// Nothing that a line's root or a stack word leads to goes. What is present before and after a command stands where it stood, so
+/// each word that stays on the stack keeps its value. The limit of pages never changes.
 pub fn what_is_reached_stays()
     ensures present { ReachedArePresent }
+    ensures visible { VisibleIsReached }
+    ensures all_visible { ReachedIsVisible }
     ensures stays { ReachedStay }
+    ensures places { PlacesStay }
     ensures words { WordsKeepValues }
+    ensures limit { LimitStays }
 {}
 
-/// The lines `! gone` of a command name exactly the objects that go.
+/// The lines `! gone` of a command name exactly the objects that go, each once; those of a verdict by ascending address. Who is gone
+/// stays gone, so no name is told twice in a trace.
 pub fn what_goes_is_told()
     ensures told { GoneAreTold }
     ensures order { GoneAreToldInOrder }
+    ensures once { GoneAreToldOnce }
+    ensures stays { GoneStayGone }
 {}
 
 /// After a push the top of the stack has the value that was pushed.

@@ -5,8 +5,20 @@ ghost use Rattle.space_model.specs.Layout.{slot_bytes as bytes_of_slot, page_slo
 /// The number of size pools (CRuby 3.3).
 pub const POOLS: u8 = 5;
 
-/// The most fields that an object may have, which are those of the last pool.
+/// The most fields of an object, which are those of the last pool.
 pub const MOST_FIELDS: usize = 78;
+
+/// The bytes of a page (CRuby 3.3; that it has no header is this project's own).
+pub const PAGE_BYTES: u64 = 65536;
+
+/// The words of a page, of 8 bytes each.
+pub const PAGE_WORDS: usize = 8192;
+
+/// The most slots of a page, which are those of the first pool.
+pub const MOST_PAGE_SLOTS: u32 = 1638;
+
+/// The most pages that a limit may allow (this project's own).
+pub const MOST_PAGES: u32 = 4096;
 
 #[tactic(auto, unfolding(crate::specs::Layout::slot_bytes))]
 /// The bytes of a slot of the pool: 40, 80, 160, 320 or 640 (CRuby 3.3).
@@ -36,19 +48,19 @@ pub fn fields_of(pool: u8) -> u64
         1 => 8,
         2 => 18,
         3 => 38,
-        4 => 78,
+        4 => MOST_FIELDS as u64,
         _ => unreachable!(),
     }
 }
 
 #[tactic(auto, unfolding(crate::specs::Layout::slot_bytes, crate::specs::Layout::page_slots))]
-/// The slots of a page of the pool. A page has 65,536 bytes, and no header (this project's own).
+/// The slots of a page of the pool. A page has no header (this project's own).
 pub fn page_slots(pool: u8) -> u64
     requires { pool < POOLS }
     ensures { result ≡ slots_of_page pool }
 {
     match pool {
-        0 => 1638,
+        0 => u64::from(MOST_PAGE_SLOTS),
         1 => 819,
         2 => 409,
         3 => 204,
@@ -67,18 +79,18 @@ pub fn pool_for(fields: u64) -> Option<u8>
         4..=8 => Some(1),
         9..=18 => Some(2),
         19..=38 => Some(3),
-        39..=78 => Some(4),
+        39.. if fields <= MOST_FIELDS as u64 => Some(4),
         _ => None,
     }
 }
 
 #[tactic(auto, unfolding(crate::specs::Layout::slot_bytes, crate::specs::Layout::page_slots, crate::specs::Layout::slot_address))]
-/// The address, in bytes, of a slot of a page whose pool this is. The page numbered 0 begins at 65,536 (this project's own).
+/// The address, in bytes, of a slot of a page whose pool this is. The page numbered 0 begins at `PAGE_BYTES` (this project's own).
 pub fn address_of(page: u32, pool: u8, slot: u32) -> u64
     requires pool { pool < POOLS }
-    requires page { page < 4096 }
+    requires page { page < MOST_PAGES }
     requires slot { slot < slots_of_page pool }
     ensures { result ≡ slot_address page pool slot }
 {
-    65536 * (u64::from(page) + 1) + slot_bytes(pool) * u64::from(slot)
+    PAGE_BYTES * (u64::from(page) + 1) + slot_bytes(pool) * u64::from(slot)
 }

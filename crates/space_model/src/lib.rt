@@ -15,7 +15,10 @@ mod value;
 pub use command::{Command, Input, Operand};
 pub use event::{Event, Kind};
 pub use ident::Ident;
-pub use layout::{MOST_FIELDS, POOLS, address_of, fields_of, page_slots, pool_for, slot_bytes};
+pub use layout::{
+    MOST_FIELDS, MOST_PAGE_SLOTS, MOST_PAGES, PAGE_BYTES, PAGE_WORDS, POOLS, address_of, fields_of,
+    page_slots, pool_for, slot_bytes,
+};
 pub use ledger::{Ledger, Steps};
 pub use object::{Guard, Style};
 pub use phase::Phase;

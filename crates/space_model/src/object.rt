@@ -1,4 +1,4 @@
-// What an object is born with, besides its fields.
+// What an object has besides its fields.
 
 /// Whether stores into an object go through the write barrier (CRuby 3.3; Sasada 2019).
 ///

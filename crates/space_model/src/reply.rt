@@ -19,12 +19,12 @@ pub enum Refusal {
 /// The last line of a command.
 #[derive(Clone, Copy, Debug, PartialEq, Eq)]
 pub enum Reply {
-    /// The object with this name was born at this address, a number of bytes.
+    /// The object with this name was allocated at this address, a number of bytes.
     Made { name: u64, address: u64 },
     /// No object of this size can be made, after a whole collection too: there are as many pages as may be, none is spare, and
     /// none has a free slot for it.
     Full,
-    /// Memory was lacking.
+    /// Out of memory.
     NoMemory,
     /// The command was done.
     Done,

@@ -9,7 +9,7 @@ pub enum Value {
     Nil,
     /// A small integer, which is below 2^62.
     Small(u64),
-    /// The object with this name. Names are 1, 2, 3 in the order of birth.
+    /// The object with this name. Names are 1, 2, 3 in the order of allocation.
     Name(u64),
 }
 

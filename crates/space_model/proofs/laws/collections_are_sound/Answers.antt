@@ -1,6 +1,7 @@
-use Rattle.space_model.proofs.CollectionsKept.{Sound-start, Sound-took, Sound-swept, Sound-swept_all}
+use Rattle.space_model.proofs.CollectionsKept.{Sound-start, Sound-took, Sound-swept, Sound-sweeps}
 use Rattle.space_model.proofs.CorpseNames.{freed_pages, swept_pages, SweepAll-there}
 use Rattle.space_model.proofs.SweptLaws.{SweepAll-swept}
+use Rattle.space_model.proofs.WholeLaws.{Sound-completed}
 use Rattle.space_model.proofs.laws.collections_are_sound.Goals as goal
 
 pub returns-clause-start : goal.returns-clause-start
@@ -9,13 +10,20 @@ returns-clause-start c = Sound-start
 pub returns-clause-took : goal.returns-clause-took
 returns-clause-took c = Sound-took
 
+pub returns-clause-completed : goal.returns-clause-completed
+returns-clause-completed c = Sound-completed
+
 pub returns-clause-swept : goal.returns-clause-swept
 returns-clause-swept c = Sound-swept
 
-pub returns-clause-swept_all : goal.returns-clause-swept_all
-returns-clause-swept_all c = Sound-swept_all
+pub returns-clause-sweeps : goal.returns-clause-sweeps
+returns-clause-sweeps c = Sound-sweeps
 
 pub returns-clause-ends : goal.returns-clause-ends
 returns-clause-ends c = λ s h.
-    let sweep = SweepAll-there s h in
-    (freed_pages s.heap.unswept s, swept_pages s.heap.unswept s, sweep, (SweepAll-swept s (swept_pages s.heap.unswept s) (freed_pages s.heap.unswept s) sweep).none_waits)
+    let sweep = SweepAll-there s h in (
+      freed_pages s.heap.unswept s,
+      swept_pages s.heap.unswept s,
+      sweep,
+      (SweepAll-swept s (swept_pages s.heap.unswept s) (freed_pages s.heap.unswept s) sweep).none_waits,
+    )

@@ -1,4 +1,4 @@
-use Rattle.space_model.proofs.GivenSmall.{commands_small}
+use Rattle.space_model.proofs.InputsGiven.{commands_given}
 use Rattle.space_model.proofs.SoundKept.{Sound-opening, lawful_sound, lawful_all_sound}
 use Rattle.space_model.proofs.laws.states_are_sound.Goals as goal
 
@@ -12,4 +12,4 @@ pub returns-clause-commands : goal.returns-clause-commands
 returns-clause-commands c = lawful_all_sound
 
 pub returns-clause-given : goal.returns-clause-given
-returns-clause-given c = commands_small
+returns-clause-given c = commands_given

@@ -1,4 +1,4 @@
--- The replies of commands that change the stack, and the states after them.
+-- The commands that change the stack: `push`, `raw` and `pop`. They choose nothing, but that they may be out of memory.
 use Rattle.std.specs.Prelude.{◌≡◌, ◌⊎◌, ℕ, List, [], ◌∷◌, ◌++◌, Result, Ok, Err}
 use Rattle.space_model.specs.declared.command.Input.{Input}
 use Rattle.space_model.specs.declared.reply.Refusal.{Refusal}
@@ -6,20 +6,20 @@ use Rattle.space_model.specs.declared.reply.Refusal.TheVariants.{NoWord}
 use Rattle.space_model.specs.declared.reply.Reply.{Reply}
 use Rattle.space_model.specs.declared.reply.Reply.TheVariants.{NoMemory, Done, Pushed}
 use Rattle.space_model.specs.declared.value.Value.{Value}
-use Rattle.space_model.specs.Answers.{Refuses}
+use Rattle.space_model.specs.Refusals.{Refuses}
 use Rattle.space_model.specs.Operands.{input_value, value_word, named_by}
-use Rattle.space_model.specs.Pieces.{Stacked}
+use Rattle.space_model.specs.Pieces.{StackReplaced}
 use Rattle.space_model.specs.State.{State}
 
--- `raw`: the word goes on top of the stack, and the reply tells it and the name that it names; or memory was lacking for it, and
+-- `raw`: the word goes on top of the stack, and the reply tells it and the name that it names; or there was no memory for it, and
 -- nothing was changed
-abbrev pub Raws : State → ℕ → Reply → State → Type 0
-Raws s word reply t =
-    ((reply ≡ Pushed word (named_by s.heap.place word)) × Stacked s (s.stack ++ word ∷ []) t) ⊎ ((reply ≡ NoMemory) × (t ≡ s))
+abbrev pub PushesWord : State → ℕ → Reply → State → Type 0
+PushesWord s word reply t =
+    ((reply ≡ Pushed word (named_by s.heap.place word)) × StackReplaced s (s.stack ++ word ∷ []) t) ⊎ ((reply ≡ NoMemory) × (t ≡ s))
 
 -- what `push` answers to a value, or to the refusal that was found instead
 abbrev pub PushReply : State → Result Value Refusal → Reply → State → Type 0
-PushReply s (Ok value) reply t = Raws s (value_word s.heap.place value) reply t
+PushReply s (Ok value) reply t = PushesWord s (value_word s.heap.place value) reply t
 PushReply s (Err why) reply t = Refuses s why reply t
 
 -- `push`: the word of the value goes on top of the stack
@@ -32,7 +32,7 @@ pub record PopsTop (s : State) (reply : Reply) (t : State) : Type 0 where
   pub others : List ℕ
   pub stack_is : s.stack ≡ others ++ top ∷ []
   pub reply_is : reply ≡ Done
-  pub after : Stacked s others t
+  pub after : StackReplaced s others t
 
 -- `pop`: the top word is taken away, where there is one
 abbrev pub Pops : State → Reply → State → Type 0

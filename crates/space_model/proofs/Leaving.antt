@@ -1,0 +1,175 @@
+-- What work of the collector leaves: what it took is gone and was told, and all else is as it was.
+use Rattle.std.proofs.Common.{◌≡◌, ℕ, zero, suc, cond, ◌||◌, Bool, true, false, List, [], ◌++◌, length, map, nat_eq, refl, sym, ap, ◌∙◌, subst, ⊎_elim, inl, inr, Option, None, Some}
+use Rattle.std.specs.Prelude.{is_some, ◌↔◌}
+use Rattle.std.specs.List.{IsDistinct}
+use Rattle.std.specs.Set.{is_member}
+use Rattle.std.specs.FinMap.{get}
+use Rattle.std.proofs.lemmas.Bool.{false_from_ne_true, false≢true}
+use Rattle.std.proofs.lemmas.List.{map-append}
+use Rattle.std.proofs.lemmas.List.Folds.{list_any-append}
+use Rattle.space_model.specs.declared.event.Event.{Event}
+use Rattle.space_model.specs.declared.event.Kind.{Kind}
+use Rattle.space_model.specs.Graph.{IsChild}
+use Rattle.space_model.specs.Maps.{without}
+use Rattle.space_model.specs.Markings.{StartMark, GivesVerdict}
+use Rattle.space_model.specs.Outputs.{Told}
+use Rattle.space_model.specs.Reach.{IsStart, Reach, Named}
+use Rattle.space_model.specs.State.{State, is_present}
+use Rattle.space_model.specs.Sweeps.{Sweep1, Sweeps}
+use Rattle.space_model.specs.ToldInOrder.{AreToldInOrder}
+use Rattle.space_model.proofs.MapLaws.{get-without, held_without, left-without}
+use Rattle.space_model.proofs.Members.{member_cases}
+use Rattle.space_model.proofs.Reaching.{IsReached-start, IsReached-mono}
+use Rattle.space_model.proofs.PageLaws.{length-spared}
+use Rattle.space_model.proofs.ToldNames.{gone_among, gone_among-append, gone_verdict_events, IsDistinct-rising, IsDistinct-append, verdict_in_order, AreToldInOrder-append, AreToldInOrder-same, gone_in-told}
+
+-- the names that were taken were present and not reached, and are gone; each other one stands where it stood. They were told in order
+pub record Leaves (s : State) (events : List Event) (t : State) : Type 0 where
+  pub taken : List ℕ
+  pub told : gone_among events ≡ taken
+  pub present : (n : ℕ) → is_member nat_eq taken n ≡ true → is_present s n ≡ true
+  pub unreached : (n : ℕ) → is_member nat_eq taken n ≡ true → Reach s n → ⊥
+  pub order : AreToldInOrder s.heap.place [] (map Told events)
+  pub once : IsDistinct nat_eq taken
+  pub place : (n : ℕ) → get t.heap.place n ≡ get (without s.heap.place taken) n
+  pub graph : t.graph ≡ s.graph
+  pub roots : t.roots ≡ s.roots
+  pub stack : t.stack ≡ s.stack
+  pub limit : t.heap.limit ≡ s.heap.limit
+  pub page_count : length t.heap.pages ≡ length s.heap.pages
+
+-- where nothing is taken
+pub leaves_all : (s t : State) → t.graph ≡ s.graph → t.roots ≡ s.roots → t.stack ≡ s.stack → t.heap.place ≡ s.heap.place → t.heap.limit ≡ s.heap.limit →
+    length t.heap.pages ≡ length s.heap.pages → Leaves s [] t
+unfolding IsDistinct
+leaves_all s t graph roots stack place limit page_count = record {
+  taken = [];
+  told = refl;
+  present = λ n m. absurd (false≢true m);
+  unreached = λ n m r. false≢true m;
+  order = refl;
+  once = tt;
+  place = λ n. ap (λ place. get place n) place ∙ sym (get-without s.heap.place [] n);
+  graph = graph;
+  roots = roots;
+  stack = stack;
+  limit = limit;
+  page_count = page_count;
+}
+
+pub leaves_same : (s t : State) → t ≡ s → Leaves s [] t
+leaves_same s t e = subst (Leaves s []) (sym e) (leaves_all s s refl refl refl refl refl refl)
+
+module _ (s : State) (events : List Event) (t : State) (h : Leaves s events t) where
+  -- what isn't taken stands where it stood
+  pub stays : (n : ℕ) → is_member nat_eq h.taken n ≡ false → get t.heap.place n ≡ get s.heap.place n
+  stays n out = h.place n ∙ get-without s.heap.place h.taken n ∙ ap (λ b. cond b None (get s.heap.place n)) out
+
+  pub stood : (n a : ℕ) → get t.heap.place n ≡ Some a → (get s.heap.place n ≡ Some a) × (is_member nat_eq h.taken n ≡ false)
+  stood n a e = held_without s.heap.place h.taken n a (sym (h.place n) ∙ e)
+
+  child_before : (m n : ℕ) → IsChild t.graph m n → IsChild s.graph m n
+  child_before m n c = subst (λ graph. IsChild graph m n) h.graph c
+
+  child_after : (m n : ℕ) → IsChild s.graph m n → IsChild t.graph m n
+  child_after m n c = subst (λ graph. IsChild graph m n) (sym h.graph) c
+
+  named_after : (word n : ℕ) → is_member nat_eq s.stack word ≡ true → Named s word n → Named t word n
+  named_after word n m at =
+      stays n (false_from_ne_true _ (λ taken. h.unreached n taken (IsReached-start (IsChild s.graph) (IsStart s) n (inr (word, m, at))))) ∙ at
+
+  reached_before : (n : ℕ) → Reach t n → Reach s n
+  reached_before = IsReached-mono (IsChild t.graph) (IsChild s.graph) (IsStart t) (IsStart s) child_before
+      (λ n start. IsReached-start (IsChild s.graph) (IsStart s) n (⊎_elim
+      (λ r. inl (rw (sym h.roots) r))
+      (λ (word, m, at). inr (word, rw (sym h.stack) m, (stood n word at).0))
+      start))
+
+  reached_after : (n : ℕ) → Reach s n → Reach t n
+  reached_after = IsReached-mono (IsChild s.graph) (IsChild t.graph) (IsStart s) (IsStart t) child_after
+      (λ n start. IsReached-start (IsChild t.graph) (IsStart t) n (⊎_elim
+      (λ r. inl (rw h.roots r))
+      (λ (word, m, at). inr (word, rw h.stack m, named_after word n m at))
+      start))
+
+  -- the same names are reached
+  pub leaves_reach : (n : ℕ) → Reach t n ↔ Reach s n
+  leaves_reach n = ((λ r. reached_before n r), (λ r. reached_after n r))
+
+twice_without : (a b : Bool) (o : Option ℕ) → cond b None (cond a None o) ≡ cond (a || b) None o
+twice_without true true o = refl
+twice_without true false o = refl
+twice_without false true o = refl
+twice_without false false o = refl
+
+-- two pieces of work, one after the other
+pub leaves_then : (s m t : State) (now later : List Event) → Leaves s now m → Leaves m later t → Leaves s (now ++ later) t
+leaves_then s m t now later h k =
+    let not_twice : (n : ℕ) → is_member nat_eq h.taken n ≡ true → is_member nat_eq k.taken n ≡ true → ⊥ =
+    λ n first second.
+    let x = left-without s.heap.place h.taken n (ap is_some (sym (h.place n)) ∙ k.present n second) in
+    false≢true (sym x.1 ∙ first) in
+    record {
+      taken = h.taken ++ k.taken;
+      told = gone_among-append now later ∙ ap (λ names. names ++ gone_among later) h.told ∙ ap (λ names. h.taken ++ names) k.told;
+      present = λ n among. ⊎_elim
+          (λ first. h.present n first)
+          (λ second. (left-without s.heap.place h.taken n (ap is_some (sym (h.place n)) ∙ k.present n second)).0)
+          (member_cases h.taken k.taken n among);
+      unreached = λ n among r. ⊎_elim
+          (λ first. h.unreached n first r)
+          (λ second. k.unreached n second ((leaves_reach s now m h n).1 r))
+          (member_cases h.taken k.taken n among);
+      order = subst (AreToldInOrder s.heap.place []) (sym (map-append Told now later))
+          (AreToldInOrder-append s.heap.place [] (map Told now) (map Told later) h.order
+          (AreToldInOrder-same m.heap.place s.heap.place [] (map Told later)
+          (λ n among.
+          let second : is_member nat_eq k.taken n ≡ true = ap (λ names. is_member nat_eq names n) (sym k.told ∙ sym (gone_in-told later)) ∙ among in
+          sym (stays s now m h n (false_from_ne_true _ (λ first. not_twice n first second))))
+          k.order));
+      once = IsDistinct-append h.taken k.taken h.once k.once not_twice;
+      place = λ n.
+          k.place n
+          ∙ get-without m.heap.place k.taken n
+          ∙ ap (cond (is_member nat_eq k.taken n) None) (h.place n ∙ get-without s.heap.place h.taken n)
+          ∙ twice_without (is_member nat_eq h.taken n) (is_member nat_eq k.taken n) (get s.heap.place n)
+          ∙ ap (λ b. cond b None (get s.heap.place n)) (sym (list_any-append (nat_eq n) h.taken k.taken))
+          ∙ sym (get-without s.heap.place (h.taken ++ k.taken) n);
+      graph = k.graph ∙ h.graph;
+      roots = k.roots ∙ h.roots;
+      stack = k.stack ∙ h.stack;
+      limit = k.limit ∙ h.limit;
+      page_count = k.page_count ∙ h.page_count;
+    }
+
+-- the start of a marking
+pub leaves_marked : (s t : State) → StartMark s t → Leaves s [] t
+leaves_marked s t e = subst (Leaves s []) (sym e) (leaves_all s _ refl refl refl refl refl refl)
+
+-- the sweep of a page
+leaves_swept_page : (s t : State) (freed : List ℕ) → Sweep1 s freed t → Leaves s [] t
+leaves_swept_page s t freed step =
+    subst (Leaves s []) (sym step.after) (leaves_all s _ refl refl refl refl refl (length-spared s.heap.place step.page s.heap.pages))
+
+-- the sweep of some pages
+pub leaves_swept : (pages : ℕ) (s t : State) (freed : List ℕ) → Sweeps pages s freed t → Leaves s [] t
+leaves_swept zero s t freed (none, same) = leaves_same s t same
+leaves_swept (suc pages) s t freed (now, later, mid, both, first, others) =
+    leaves_then s mid t [] [] (leaves_swept_page s mid now first) (leaves_swept pages mid t later others)
+
+-- a verdict
+pub leaves_taken : (s : State) (kind : Kind) (taken : List ℕ) (events : List Event) (t : State) → GivesVerdict s kind taken events t → Leaves s events t
+leaves_taken s kind taken events t v = record {
+  taken = taken;
+  told = ap gone_among v.events_are ∙ gone_verdict_events kind taken;
+  present = v.verdict.present;
+  unreached = v.verdict.unreached;
+  order = subst (λ events. AreToldInOrder s.heap.place [] (map Told events)) (sym v.events_are) (verdict_in_order s.heap.place kind taken v.verdict.rising);
+  once = IsDistinct-rising s.heap.place taken v.verdict.rising;
+  place = λ n. ap (λ (u : State). get u.heap.place n) v.takes;
+  graph = ap (λ (u : State). u.graph) v.takes;
+  roots = ap (λ (u : State). u.roots) v.takes;
+  stack = ap (λ (u : State). u.stack) v.takes;
+  limit = ap (λ (u : State). u.heap.limit) v.takes;
+  page_count = ap (λ (u : State). length u.heap.pages) v.takes;
+}

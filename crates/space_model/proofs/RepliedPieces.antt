@@ -1,0 +1,109 @@
+-- What a command without events does to a state: nothing, or one piece of work.
+use Rattle.std.proofs.Common.{◌≡◌, ℕ, List, [], ◌∷◌, ◌++◌, refl, ⊎_elim, Option, None, Some, Result, Ok, Err}
+use Rattle.space_model.specs.declared.command.Command.{Command}
+use Rattle.space_model.specs.declared.command.Command.TheVariants.{New, Set, DropRoot, Push, Raw, Pop, Store, Load, Same, Gc}
+use Rattle.space_model.specs.declared.command.Input.{Input}
+use Rattle.space_model.specs.declared.command.Operand.{Operand}
+use Rattle.space_model.specs.declared.reply.Refusal.{Refusal}
+use Rattle.space_model.specs.declared.reply.Reply.{Reply}
+use Rattle.space_model.specs.declared.reply.Reply.TheVariants.{Done, Read}
+use Rattle.space_model.specs.declared.value.Value.{Value}
+use Rattle.space_model.specs.declared.value.Value.TheVariants.{Name}
+use Rattle.space_model.specs.CommandTexts.{IsWritableInput}
+use Rattle.space_model.specs.Given.{IsGiven}
+use Rattle.space_model.specs.Idents.{IsIdent}
+use Rattle.space_model.specs.Lawful.{Replies}
+use Rattle.space_model.specs.ObjectCommands.{written_field, StoreReply}
+use Rattle.space_model.specs.Operands.{operand_value, input_value}
+use Rattle.space_model.specs.Pieces.{RootWritten, RootDropped, StackReplaced, FieldWritten}
+use Rattle.space_model.specs.RootCommands.{WritesRoot, SetReply, DropReply, field_value, LoadReply}
+use Rattle.space_model.specs.Roots.{root_value}
+use Rattle.space_model.specs.Sound.{Sound, IsSmall}
+use Rattle.space_model.specs.StackCommands.{PushesWord, PushReply, Pops}
+use Rattle.space_model.specs.State.{State}
+use Rattle.space_model.proofs.ValuesHold.{input_holds, read_holds, write_holds}
+use Rattle.space_model.proofs.ValuesKept.{IsPresentValue, present_kept, small_kept}
+
+-- in a sound state the value is present, and small, where what is given is
+abbrev pub IsValid : Type 0 → State → Value → Type 0
+IsValid given s value = given → Sound s → IsPresentValue s.heap.place value × IsSmall value
+
+-- nothing was changed; or a root was written or taken away, the stack replaced, or a field written
+pub data IsPiece (given : Type 0) (s t : State) : Type 0 where
+  Nothing : (same : t ≡ s) → IsPiece given s t
+  Root : (root : List ℕ) → (value : Value) → (ident : given → IsIdent root) → (valid : IsValid given s value) →
+      (after : RootWritten s root value t) → IsPiece given s t
+  Dropped : (root : List ℕ) → (after : RootDropped s root t) → IsPiece given s t
+  Stack : (words : List ℕ) → (after : StackReplaced s words t) → IsPiece given s t
+  Field : (name index : ℕ) → (value : Value) → (object : IsValid given s (Name name)) → (valid : IsValid given s value) →
+      (after : FieldWritten s name index value t) → IsPiece given s t
+
+module _ (given : Type 0) (s t : State) where
+  root_piece : (root : List ℕ) (value : Value) (answer reply : Reply) → (given → IsIdent root) → IsValid given s value →
+      WritesRoot s root value answer reply t → IsPiece given s t
+  root_piece root value answer reply ident valid w = ⊎_elim (λ (_, e). Root root value ident valid e) (λ (_, _, e). Nothing e) w
+
+  set_piece : (root : List ℕ) (input : Input) (found : Result Value Refusal) (reply : Reply) → (given → IsIdent root) →
+      (given → IsWritableInput input) → input_value s input ≡ found →
+      SetReply s root found reply t → IsPiece given s t
+  set_piece root input (Ok value) reply ident small f e =
+      root_piece root value Done reply ident
+      (λ g h. (
+        input_holds s (IsPresentValue s.heap.place) (present_kept s h) input value (small g) f,
+        input_holds s IsSmall (small_kept s h) input value (small g) f,
+      ))
+      e
+  set_piece root input (Err why) reply ident small f e = Nothing e.unchanged
+
+  drop_piece : (root : List ℕ) (found : Option Value) (reply : Reply) → DropReply s root found reply t → IsPiece given s t
+  drop_piece root None reply e = Nothing e.unchanged
+  drop_piece root (Some value) reply e = Dropped root e.1
+
+  word_piece : (word : ℕ) (reply : Reply) → PushesWord s word reply t → IsPiece given s t
+  word_piece word reply e = ⊎_elim (λ (_, after). Stack (s.stack ++ word ∷ []) after) (λ (_, same). Nothing same) e
+
+  push_piece : (found : Result Value Refusal) (reply : Reply) → PushReply s found reply t → IsPiece given s t
+  push_piece (Ok value) reply e = word_piece _ reply e
+  push_piece (Err why) reply e = Nothing e.unchanged
+
+  pop_piece : (reply : Reply) → Pops s reply t → IsPiece given s t
+  pop_piece reply e = ⊎_elim (λ pops. Stack pops.others pops.after) (λ (_, refused). Nothing refused.unchanged) e
+
+  load_piece : (root : List ℕ) (object : Operand) (index : ℕ) (found : Result Value Refusal) (reply : Reply) → (given → IsIdent root) →
+      field_value s.graph (operand_value s object) index ≡ found → LoadReply s root found reply t → IsPiece given s t
+  load_piece root object index (Ok value) reply ident f e =
+      root_piece root value (Read value) reply ident
+      (λ g h. (read_holds s (IsPresentValue s.heap.place) (present_kept s h) object index value f, read_holds s IsSmall (small_kept s h) object index value f))
+      e
+  load_piece root object index (Err why) reply ident f e = Nothing e.unchanged
+
+  store_piece : (object : Operand) (index : ℕ) (input : Input) (found : Result (ℕ × Value) Refusal) (reply : Reply) → (given → IsWritableInput input) →
+      written_field s.graph (operand_value s object) index (input_value s input) ≡ found → StoreReply s index found reply t → IsPiece given s t
+  store_piece object index input (Ok written) reply small f e =
+      Field written.0 index written.1
+      (λ g h. (
+        (write_holds s (IsPresentValue s.heap.place) (present_kept s h) object index input written (small g) f).0,
+        (write_holds s IsSmall (small_kept s h) object index input written (small g) f).0,
+      ))
+      (λ g h. (
+        (write_holds s (IsPresentValue s.heap.place) (present_kept s h) object index input written (small g) f).1,
+        (write_holds s IsSmall (small_kept s h) object index input written (small g) f).1,
+      ))
+      e.1
+  store_piece object index input (Err why) reply small f e = Nothing e.unchanged
+
+-- the piece of each command
+pub replied_piece : (s t : State) (command : Command) (reply : Reply) → Replies s command reply t → IsPiece (IsGiven command) s t
+replied_piece s t (New root fields guard style) reply e = absurd e
+replied_piece s t (Set root value) reply e = set_piece (IsGiven (Set root value)) s t root value (input_value s value) reply (λ g. g.1.0) (λ g. g.1.1.0) refl e
+replied_piece s t (DropRoot root) reply e = drop_piece (IsGiven (DropRoot root)) s t root (root_value s.roots root) reply e
+replied_piece s t (Push value) reply e = push_piece (IsGiven (Push value)) s t (input_value s value) reply e
+replied_piece s t (Raw word) reply e = word_piece (IsGiven (Raw word)) s t word reply e
+replied_piece s t Pop reply e = pop_piece (IsGiven Pop) s t reply e
+replied_piece s t (Store object index value) reply e =
+    store_piece (IsGiven (Store object index value)) s t object index value (written_field s.graph (operand_value s object) index (input_value s value)) reply
+    (λ g. g.1.1.1.0) refl e
+replied_piece s t (Load root object index) reply e =
+    load_piece (IsGiven (Load root object index)) s t root object index (field_value s.graph (operand_value s object) index) reply (λ g. g.1.0) refl e
+replied_piece s t (Same left right) reply e = Nothing e.1
+replied_piece s t Gc reply e = absurd e

@@ -1,0 +1,17 @@
+-- The replies of commands without events are effects, and lawful outputs.
+use Rattle.std.proofs.Common.{[], ◌∷◌, refl}
+use Rattle.space_model.specs.declared.command.Command.{Command}
+use Rattle.space_model.specs.declared.command.Command.TheVariants.{New, Gc}
+use Rattle.space_model.specs.declared.reply.Reply.{Reply}
+use Rattle.space_model.specs.Lawful.{Replies, Effects, Lawful}
+use Rattle.space_model.specs.Outputs.{Replied}
+use Rattle.space_model.specs.State.{State}
+
+-- a reply is the answer, and there are no events
+pub Effects-replied : (s : State) (command : Command) (reply : Reply) (t : State) → Replies s command reply t → Effects s command [] (Replied reply ∷ []) t
+Effects-replied s (New root fields guard style) reply t r = absurd r
+Effects-replied s Gc reply t r = absurd r
+Effects-replied s command reply t r = (refl, record { reply = reply; answer_is = refl; is = r })
+
+pub Lawful-replied : (s : State) (command : Command) (reply : Reply) (t : State) → Replies s command reply t → Lawful s command (Replied reply ∷ []) t
+Lawful-replied s command reply t r = record { events = []; answer = Replied reply ∷ []; outputs_are = refl; effects = Effects-replied s command reply t r }
