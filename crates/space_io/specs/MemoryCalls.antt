@@ -1,5 +1,5 @@
 -- When a call of a source or a sink in memory fails, how many bytes it moves, and what it leaves.
-use Rattle.std.specs.Prelude.{ℕ, ◌⊎◌, ◌-◌, ◌≤◌, ◌++◌, min, List, Contains, length, take, drop}
+use Rattle.std.specs.Prelude.{ℕ, ◌⊎◌, ◌-◌, ◌≤◌, ◌==◌, ◌++◌, if◌then◌else◌, min, List, Contains, length, take, drop}
 use Rattle.space_io.specs.Causes.{raised}
 use Rattle.space_io.specs.Memory.{SourceView, SinkView}
 
@@ -11,9 +11,9 @@ ReadFails s = Contains s.failing (raised s.calls)
 abbrev pub read_count : SourceView → List ℕ → ℕ
 read_count s into = min (min (length s.rest) (length into)) s.most
 
--- the source after a call that gave n bytes
+-- the source after a call that gave n bytes: where it gave none, it told its end
 abbrev pub after_read : SourceView → ℕ → SourceView
-after_read s n = record s { rest = drop n s.rest; calls = raised s.calls }
+after_read s n = record s { rest = drop n s.rest; calls = raised s.calls; ends = if n == 0 then raised s.ends else s.ends }
 
 -- the source after a call that failed
 abbrev pub after_read_fault : SourceView → SourceView

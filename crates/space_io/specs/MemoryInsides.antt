@@ -13,6 +13,7 @@ source_of a =
       failing = a.failing.items;
       calls = a.calls;
       faults = a.faults;
+      ends = a.ends;
     }
 
 -- the place is within the bytes, and a call may give some
