@@ -19,7 +19,8 @@ pub length_step : (n : ℕ) → 0 < n → length (digits_of 16 n) ≡ length (di
 length_step n some = length-digits_of_step 16 n (lit≤ tt) some
 
 pub hex_digits-push : (n : ℕ) → 0 < n → hex_digits n ≡ hex_digits (n / 16) ++ digit_glyph false (n % 16) ∷ []
-hex_digits-push n some = ap (map (digit_glyph false)) (digits_of_step 16 n (lit≤ tt) some) ∙ map-append (digit_glyph false) (digits_of 16 (n / 16)) (n % 16 ∷ [])
+hex_digits-push n some = ap (map (digit_glyph false)) (digits_of_step 16 n (lit≤ tt) some)
+    ∙ map-append (digit_glyph false) (digits_of 16 (n / 16)) (n % 16 ∷ [])
 
 pub length_hex : (k n : ℕ) → n < 16 ^ k → length (digits_of 16 n) ≤ k
 length_hex zero n h = let e : n ≡ 0 = omega arith in subst (λ (m : ℕ). length (digits_of 16 m) ≤ 0) (sym e) (lit≤ tt)
@@ -28,7 +29,8 @@ length_hex (suc k) (suc m) h =
     let less : suc m / 16 < 16 ^ k = omega (arith, pow-suc 16 k) in
     omega (arith, length_step (suc m) (omega arith), length_hex k (suc m / 16) less)
 
-pub pushed : (before mid after : List ℕ) (n digit : ℕ) → 0 < n → mid ≡ before ++ hex_digits (n / 16) → digit ≡ digit_glyph false (n % 16) → after ≡ mid ++ digit ∷ [] → after ≡ before ++ hex_digits n
+pub pushed : (before mid after : List ℕ) (n digit : ℕ) → 0 < n → mid ≡ before ++ hex_digits (n / 16) → digit ≡ digit_glyph false (n % 16) →
+    after ≡ mid ++ digit ∷ [] → after ≡ before ++ hex_digits n
 pushed before mid after n digit some e d f = f ∙ rw (e, d, hex_digits-push n some) (append_assoc before (hex_digits (n / 16)) (digit_glyph false (n % 16) ∷ []))
 
 -- the digits that a number is written with
@@ -38,7 +40,8 @@ glyph_is_digit d h = grind (arith, nat_tests)
 
 glyphs_are_digits : (ds : List ℕ) → AllBelowBase 16 ds → All (λ b. IsTrue (is_hex_digit b)) (map (digit_glyph false) ds)
 glyphs_are_digits [] h = All-nil (λ b. IsTrue (is_hex_digit b))
-glyphs_are_digits (d ∷ ds) h = All-cons (λ b. IsTrue (is_hex_digit b)) (digit_glyph false d) (map (digit_glyph false) ds) (glyph_is_digit d h.0) (glyphs_are_digits ds h.1)
+glyphs_are_digits (d ∷ ds) h = All-cons (λ b. IsTrue (is_hex_digit b)) (digit_glyph false d) (map (digit_glyph false) ds) (glyph_is_digit d h.0)
+    (glyphs_are_digits ds h.1)
 
 pub IsHex-hex : (n : ℕ) → n < 2 ^ 64 → IsHex (hex n) n
 IsHex-hex zero fits = record {
@@ -68,7 +71,8 @@ pub record IsHexTo (digits : List ℕ) (i number : ℕ) : Type 0 where
 pub hex_start : (digits : List ℕ) → IsHexTo digits 0 0
 hex_start digits = record { value = refl; below = lit≤ tt }
 
-pub hex_more : (digits : List ℕ) (i number digit next : ℕ) → i < length digits → digit ≡ digit_value (get_or digits i 0) → digit < 16 → next ≡ number * 16 + digit → IsHexTo digits i number → IsHexTo digits (i + 1) next
+pub hex_more : (digits : List ℕ) (i number digit next : ℕ) → i < length digits → digit ≡ digit_value (get_or digits i 0) → digit < 16 →
+    next ≡ number * 16 + digit → IsHexTo digits i number → IsHexTo digits (i + 1) next
 hex_more digits i number digit next lt d small e h =
     let split = drop_more digits i 0 lt in
     let here = rw split at h.value in

@@ -16,8 +16,7 @@ use Rattle.space_model.specs.declared.object.Style.TheVariants.{Movable}
 use Rattle.space_model.specs.Grammar.{IsHex, IsOperand, IsInput, IsCommand, IsBlank, IsReading, AreCommands, Commands, words_of, without_cr}
 use Rattle.space_model.specs.Idents.{IsIdent, is_first_byte}
 use Rattle.space_model.specs.Lines.{lines_of}
-use Rattle.space_model.specs.CommandTexts.{command_pieces, command_text, IsWritable}
-use Rattle.space_model.specs.Spelling.{IsSpelled}
+use Rattle.space_model.specs.CommandTexts.{command_text, IsWritable}
 use Rattle.space_trace.proofs.SpellingLemmas.{spelling_is_read}
 
 -- Each function below finds what a word is, or what words are, and anything where they are nothing.
@@ -109,16 +108,18 @@ raw_is text word h = rw h.is (ap (λ (n : ℕ). Some (Raw n)) (sym h.value))
 
 -- the command that words are is the one that is found
 pub command_is : (words : List (List ℕ)) (command : Command) → IsCommand words command → command_of words ≡ Some command
-command_is words (New root fields guard style) h = rw (h.1, h.3.value, h.4, h.5) refl
-command_is words (Set root value) h = rw (h.1, input_is h.0 value h.3) refl
-command_is words (DropRoot root) h = rw h.0 refl
-command_is words (Push value) h = rw (h.1, input_is h.0 value h.2) refl
-command_is words (Raw word) h = rw h.1 (raw_is h.0 word h.2)
-command_is words Pop h = rw h refl
-command_is words (Store object index value) h = rw (h.3, operand_is h.0 object h.4, h.5.value, input_is h.2 value h.6) refl
-command_is words (Load root object index) h = rw (h.2, operand_is h.0 object h.4, h.5.value) refl
-command_is words (Same left right) h = rw (h.2, operand_is h.0 left h.3, operand_is h.1 right h.4) refl
-command_is words Gc h = rw h refl
+command_is words (New root fields guard style) ((_, _, e, f, (_, _, e1, f1, (_, _, e2, f2, _))), (p, m)) = rw (e, f, e1, e2, f1.0, f2.value, p, m) refl
+command_is words (Set root value) ((_, _, e, f, (_, _, e1, f1, (v, _, e2, f2, _))), _) = rw (e, f, e1, e2, f1.0, input_is v value f2) refl
+command_is words (DropRoot root) ((_, _, e, f, (_, _, e1, f1, _)), _) = rw (e, f, e1, f1.0) refl
+command_is words (Push value) ((_, _, e, f, (v, _, e1, f1, _)), _) = rw (e, f, e1, input_is v value f1) refl
+command_is words (Raw word) ((_, _, e, f, (w, _, e1, f1, _)), _) = rw (e, f, e1) (raw_is w word f1)
+command_is words Pop ((_, _, e, f, _), _) = rw (e, f) refl
+command_is words (Store object index value) ((_, _, e, f, (a, _, e1, f1, (_, _, e2, f2, (v, _, e3, f3, _)))), _) =
+    rw (e, f, e1, e2, e3, operand_is a object f1, f2.value, input_is v value f3) refl
+command_is words (Load root object index) ((_, _, e, f, (_, _, e1, f1, (a, _, e2, f2, (_, _, e3, f3, _)))), _) =
+    rw (e, f, e1, e2, e3, f1.0, operand_is a object f2, f3.value) refl
+command_is words (Same left right) ((_, _, e, f, (a, _, e1, f1, (b, _, e2, f2, _))), _) = rw (e, f, e1, e2, operand_is a left f1, operand_is b right f2) refl
+command_is words Gc ((_, _, e, f, _), _) = rw (e, f) refl
 
 -- a blank has no words of a command
 comment_is : (words : List (List ℕ)) → command_of (onto_first 59 words) ≡ None
@@ -147,19 +148,23 @@ commands_same bytes a b h k = lines_same (lines_of bytes) a b h k
 some_same : (a b : Command) → ◌≡◌ {A = Option Command} (Some a) (Some b) → a ≡ b
 some_same a b e = cc
 
-pub spellings_differ : (a b : Command) → IsWritable a → IsSpelled (command_pieces a) → IsWritable b → IsSpelled (command_pieces b) → command_text a ≡ command_text b → a ≡ b
-spellings_differ a b w s v t e =
-    let first : IsReading (command_text b) (Some a) = subst (λ (line : List ℕ). IsReading line (Some a)) e (spelling_is_read a w s) in
-    some_same a b (readings_same (command_text b) (Some a) (Some b) first (spelling_is_read b v t))
+pub spellings_differ : (a b : Command) → IsWritable a → IsWritable b → command_text a ≡ command_text b → a ≡ b
+spellings_differ a b w v e =
+    let first : IsReading (command_text b) (Some a) = subst (λ (line : List ℕ). IsReading line (Some a)) e (spelling_is_read a w) in
+    some_same a b (readings_same (command_text b) (Some a) (Some b) first (spelling_is_read b v))
 
 -- what isn't spelled in base 16 is no word of `raw`
 no_raw_word : (word : List ℕ) → ((number : ℕ) → IsHex word number → ⊥) → (command : Command) → IsCommand (codes "raw" ∷ word ∷ []) command → ⊥
 no_raw_word word none command h =
     let n = digits_value 16 (drop 2 word) in
     let same : Raw n ≡ command = some_same (Raw n) command (command_is (codes "raw" ∷ word ∷ []) command h) in
-    let k : IsCommand (codes "raw" ∷ word ∷ []) (Raw n) = subst (λ (c : Command). IsCommand (codes "raw" ∷ word ∷ []) c) (sym same) h in
-    let w : k.0 ≡ word = (let e = k.1 in cc) in
-    none n (subst (λ (text : List ℕ). IsHex text n) w k.2)
+    is_hex n (subst (λ (c : Command). IsCommand (codes "raw" ∷ word ∷ []) c) (sym same) h)
+  where
+    is_hex : (n : ℕ) → IsCommand (codes "raw" ∷ word ∷ []) (Raw n) → ⊥
+    is_hex n ((_, _, e, _, (text, _, e1, f1, _)), _) =
+        let w : text ≡ word = (let both = e in let other = e1 in cc) in
+        none n (subst (λ (text : List ℕ). IsHex text n) w f1)
 
-pub no_raw : (words : List (List ℕ)) (word : List ℕ) → words ≡ word ∷ [] → ((number : ℕ) → IsHex word number → ⊥) → (command : Command) → IsCommand (codes "raw" ∷ words) command → ⊥
+pub no_raw : (words : List (List ℕ)) (word : List ℕ) → words ≡ word ∷ [] → ((number : ℕ) → IsHex word number → ⊥) → (command : Command) →
+    IsCommand (codes "raw" ∷ words) command → ⊥
 no_raw words word e none command h = no_raw_word word none command (rw e at h)

@@ -1,5 +1,5 @@
 -- The spelling of a command, cut into words.
-use Rattle.std.proofs.Common.{◌≡◌, ◌==◌, ◌&&◌, if◌then◌else◌, Bool, ℕ, ◌^◌, ◌<◌, false, true, List, [], ◌∷◌, ◌++◌, codes, Some, IsTrue, refl, ap, sym, subst, ◌∙◌, arith, lit≤}
+use Rattle.std.proofs.Common.{◌≡◌, ◌==◌, ◌&&◌, if◌then◌else◌, Bool, ℕ, ◌^◌, ◌<◌, false, true, List, [], ◌∷◌, ◌++◌, codes, map, Some, IsTrue, refl, ap, sym, subst, ◌∙◌, arith, lit≤}
 use Rattle.std.proofs.lemmas.Bool.{ne_eqb, and_parts}
 use Rattle.std.proofs.lemmas.Fmt.{decimal_is_IsNumeral, length-decimal-le}
 use Rattle.std.proofs.lemmas.List.{append-nil}
@@ -9,17 +9,15 @@ use Rattle.std.specs.Fmt.{decimal}
 use Rattle.std.specs.List.{All}
 use Rattle.std.specs.Str.Parse.{AllDigits}
 use Rattle.space_model.specs.declared.command.Command.{Command}
-use Rattle.space_model.specs.declared.command.Command.TheVariants.{New, Set, DropRoot, Push, Raw, Pop, Store, Load, Same, Gc}
+use Rattle.space_model.specs.declared.command.Command.TheVariants.{New, Gc}
 use Rattle.space_model.specs.declared.command.Input.{Input}
 use Rattle.space_model.specs.declared.command.Input.TheVariants.{From, Nil, Small}
 use Rattle.space_model.specs.declared.command.Operand.{Operand}
 use Rattle.space_model.specs.declared.command.Operand.TheVariants.{Root, Word}
-use Rattle.space_model.specs.declared.object.Guard.TheVariants.{Protected}
-use Rattle.space_model.specs.declared.object.Style.TheVariants.{Movable}
-use Rattle.space_model.specs.CommandTexts.{operand_pieces, input_pieces, command_pieces, command_text, IsWritableOperand, IsWritableInput, IsWritable}
-use Rattle.space_model.specs.Grammar.{IsNumber, IsOperand, IsInput, IsReading, words_of, without_cr}
+use Rattle.space_model.specs.CommandTexts.{operand_pieces, input_pieces, word_pieces, spaced_pieces, command_text, IsWritableOperand, IsWritableInput, IsWritableWord, AreWritable, IsWritable}
+use Rattle.space_model.specs.Grammar.{FormWord, Exactly, IdentWord, Decimal, Base16, OperandWord, InputWord, form_of, IsNumber, IsOperand, IsInput, IsFormWord, AreFormWords, HasLine, IsReading, words_of, without_cr}
 use Rattle.space_model.specs.Idents.{IsIdent, is_later_byte}
-use Rattle.space_model.specs.Spelling.{Piece, Say, text_of_pieces, IsSpelled, hex}
+use Rattle.space_model.specs.Spelling.{Say, text_of_pieces, hex}
 use Rattle.space_model.proofs.Cutting.{IsWord, IsWord-hex}
 use Rattle.space_trace.specs.WordsLeft.{HasNoSpace}
 use Rattle.space_trace.proofs.HexLemmas.{IsHex-hex}
@@ -98,25 +96,51 @@ IsPlain-hex n = IsPlain-word (hex n) (IsWord-hex n)
 
 -- operands and values
 
-operand_read : (operand : Operand) → IsWritableOperand operand → IsSpelled (operand_pieces operand) → IsOperand (text_of_pieces (operand_pieces operand)) operand
-operand_read (Root name) h s = (append-nil name, h)
-operand_read (Word place) h s = (decimal place, ap (λ (text : List ℕ). 64 ∷ text) (append-nil (decimal place)), IsNumber-decimal place s.0)
+operand_read : (operand : Operand) → IsWritableOperand operand → IsOperand (text_of_pieces (operand_pieces operand)) operand
+operand_read (Root name) h = (append-nil name, h)
+operand_read (Word place) h = (decimal place, ap (λ (text : List ℕ). 64 ∷ text) (append-nil (decimal place)), IsNumber-decimal place h)
 
-operand_plain : (operand : Operand) → IsWritableOperand operand → IsSpelled (operand_pieces operand) → IsPlain (text_of_pieces (operand_pieces operand))
-operand_plain (Root name) h s = rw (append-nil name) (IsPlain-ident name h)
-operand_plain (Word place) h s = (refl, refl, rw (append-nil (decimal place)) (IsPlain-decimal place s.0))
+operand_plain : (operand : Operand) → IsWritableOperand operand → IsPlain (text_of_pieces (operand_pieces operand))
+operand_plain (Root name) h = rw (append-nil name) (IsPlain-ident name h)
+operand_plain (Word place) h = (refl, refl, rw (append-nil (decimal place)) (IsPlain-decimal place h))
 
-input_read : (value : Input) → IsWritableInput value → IsSpelled (input_pieces value) → IsInput (text_of_pieces (input_pieces value)) value
-input_read (From operand) h s = operand_read operand h s
-input_read Nil h s = refl
-input_read (Small number) h s = (decimal number, ap (λ (text : List ℕ). 61 ∷ text) (append-nil (decimal number)), IsNumber-decimal number s.0, h)
+input_read : (value : Input) → IsWritableInput value → IsInput (text_of_pieces (input_pieces value)) value
+input_read (From operand) h = operand_read operand h
+input_read Nil h = refl
+input_read (Small number) h = (decimal number, ap (λ (text : List ℕ). 61 ∷ text) (append-nil (decimal number)), IsNumber-decimal number (omega arith), h)
 
-input_plain : (value : Input) → IsWritableInput value → IsSpelled (input_pieces value) → IsPlain (text_of_pieces (input_pieces value))
-input_plain (From operand) h s = operand_plain operand h s
-input_plain Nil h s = plain_text (codes "nil") refl
-input_plain (Small number) h s = (refl, refl, rw (append-nil (decimal number)) (IsPlain-decimal number s.0))
+input_plain : (value : Input) → IsWritableInput value → IsPlain (text_of_pieces (input_pieces value))
+input_plain (From operand) h = operand_plain operand h
+input_plain Nil h = plain_text (codes "nil") refl
+input_plain (Small number) h = (refl, refl, rw (append-nil (decimal number)) (IsPlain-decimal number (omega arith)))
 
--- words come off the front
+-- words of forms
+
+abbrev word_text : FormWord → List ℕ
+word_text word = text_of_pieces (word_pieces word)
+
+word_read : (word : FormWord) → IsWritableWord word → IsFormWord (word_text word) word
+word_read (Exactly text) h = append-nil text
+word_read (IdentWord ident) h = (append-nil ident, h)
+word_read (Decimal number) h = rw (append-nil (decimal number)) (IsNumber-decimal number h)
+word_read (Base16 number) h = rw (append-nil (hex number)) (IsHex-hex number h)
+word_read (OperandWord operand) h = operand_read operand h
+word_read (InputWord value) h = input_read value h
+
+-- whether fixed bytes are plain
+abbrev is_plain_word : FormWord → Bool
+is_plain_word (Exactly text) = is_plain text
+is_plain_word _ = true
+
+word_plain : (word : FormWord) → is_plain_word word ≡ true → IsWritableWord word → IsPlain (word_text word)
+word_plain (Exactly text) e h = rw (append-nil text) (plain_text text e)
+word_plain (IdentWord ident) e h = rw (append-nil ident) (IsPlain-ident ident h)
+word_plain (Decimal number) e h = rw (append-nil (decimal number)) (IsPlain-decimal number h)
+word_plain (Base16 number) e h = subst IsPlain (sym (append-nil (hex number))) (IsPlain-hex number)
+word_plain (OperandWord operand) e h = operand_plain operand h
+word_plain (InputWord value) e h = input_plain value h
+
+-- words are cut off the start of a line
 
 without_cr-plain : (word : List ℕ) → IsPlain word → without_cr word ≡ word
 without_cr-plain [] h = refl
@@ -140,75 +164,48 @@ words_read {line} {words} cut = rw cut.no_cr cut.is
 last_word : (word : List ℕ) → IsPlain word → IsCut word (word ∷ [])
 last_word word h = record { is = words_of-last word (no_space word h); no_cr = without_cr-plain word h }
 
-last_number : (number : ℕ) → number < 2 ^ 64 → IsCut (decimal number ++ []) (decimal number ∷ [])
-last_number number fits = rw (append-nil (decimal number)) (last_word (decimal number) (IsPlain-decimal number fits))
-
 word_off : (word : List ℕ) {rest : List ℕ} {words : List (List ℕ)} → IsPlain word → IsCut rest words → IsCut (word ++ 32 ∷ rest) (word ∷ words)
 word_off word {rest} {words} h cut = record {
   is = words_of-cut word rest (no_space word h) ∙ ap (λ (ws : List (List ℕ)). word ∷ ws) cut.is;
   no_cr = without_cr-cut word rest cut.no_cr;
 }
 
-operand_off : (operand : Operand) (more : List Piece) {words : List (List ℕ)} → IsWritableOperand operand → IsSpelled (operand_pieces operand) → IsCut (text_of_pieces more) words → IsCut (text_of_pieces (operand_pieces operand ++ Say (codes " ") ∷ more)) (text_of_pieces (operand_pieces operand) ∷ words)
-operand_off operand more {words} h s cut =
-    let split = text_of_pieces_append (operand_pieces operand) (Say (codes " ") ∷ more) in
-    rw split (word_off (text_of_pieces (operand_pieces operand)) (operand_plain operand h s) cut)
+-- the line of some words, cut into these
 
-operand_front : (operand : Operand) (pieces : List Piece) → IsSpelled (operand_pieces operand ++ pieces) → IsSpelled (operand_pieces operand)
-operand_front (Root name) pieces s = (s.0, tt)
-operand_front (Word place) pieces s = (s.0, tt)
+abbrev are_plain : List FormWord → Bool
+are_plain [] = true
+are_plain (word ∷ words) = is_plain_word word && are_plain words
 
--- what is left of the pieces when an operand's came off the front
-operand_spelled : (operand : Operand) (pieces : List Piece) → IsSpelled (operand_pieces operand ++ pieces) → IsSpelled pieces
-operand_spelled (Root name) pieces s = s.1
-operand_spelled (Word place) pieces s = s.1
+words_cut : (word : FormWord) (words : List FormWord) → are_plain (word ∷ words) ≡ true → AreWritable (word ∷ words) →
+    IsCut (text_of_pieces (spaced_pieces (word ∷ words))) (map word_text (word ∷ words))
+words_cut word [] e h = last_word (word_text word) (word_plain word (and_parts _ _ e).0 h.0)
+words_cut word (next ∷ words) e h =
+    let both = and_parts _ _ e in
+    rw (text_of_pieces_append (word_pieces word) (Say (codes " ") ∷ spaced_pieces (next ∷ words)))
+    (word_off (word_text word) (word_plain word both.0 h.0) (words_cut next words both.1 h.1))
 
-pub spelling_is_read : (command : Command) → IsWritable command → IsSpelled (command_pieces command) → IsReading (command_text command) (Some command)
-spelling_is_read (New root fields guard style) w s =
-    let marks : IsCut (codes "P M") (codes "P" ∷ codes "M" ∷ []) = record { is = refl; no_cr = refl } in
-    let words : IsCut (command_text (New root fields Protected Movable)) (codes "new" ∷ root ∷ decimal fields ∷ codes "P" ∷ codes "M" ∷ []) =
-    word_off (codes "new") (plain_text (codes "new") refl) (word_off root (IsPlain-ident root w.0) (word_off (decimal fields) (IsPlain-decimal fields s.1.0) marks)) in
-    (decimal fields, rw (w.1, w.2) (words_read words), w.0, IsNumber-decimal fields s.1.0, w.1, w.2)
-spelling_is_read (Set root value) w s =
-    let v = text_of_pieces (input_pieces value) in
-    let words : IsCut (command_text (Set root value)) (codes "set" ∷ root ∷ v ∷ []) =
-    word_off (codes "set") (plain_text (codes "set") refl) (word_off root (IsPlain-ident root w.0) (last_word v (input_plain value w.1 s.1))) in
-    (v, words_read words, w.0, input_read value w.1 s.1)
-spelling_is_read (DropRoot root) w s =
-    let words : IsCut (command_text (DropRoot root)) (codes "drop" ∷ root ∷ []) =
-    word_off (codes "drop") (plain_text (codes "drop") refl) (rw (append-nil root) (last_word root (IsPlain-ident root w))) in
-    (words_read words, w)
-spelling_is_read (Push value) w s =
-    let v = text_of_pieces (input_pieces value) in
-    let words : IsCut (command_text (Push value)) (codes "push" ∷ v ∷ []) =
-    word_off (codes "push") (plain_text (codes "push") refl) (last_word v (input_plain value w s)) in
-    (v, words_read words, input_read value w s)
-spelling_is_read (Raw word) w s =
-    let words : IsCut (command_text (Raw word)) (codes "raw" ∷ hex word ∷ []) =
-    word_off (codes "raw") (plain_text (codes "raw") refl) (rw (append-nil (hex word)) (last_word (hex word) (IsPlain-hex word))) in
-    (hex word, words_read words, IsHex-hex word w)
-spelling_is_read Pop w s = refl
-spelling_is_read (Store object index value) w s =
-    let o = operand_front object _ s in
-    let t = operand_spelled object _ s in
-    let a = text_of_pieces (operand_pieces object) in
-    let v = text_of_pieces (input_pieces value) in
-    let words : IsCut (command_text (Store object index value)) (codes "store" ∷ a ∷ decimal index ∷ v ∷ []) =
-    word_off (codes "store") (plain_text (codes "store") refl) (operand_off object _ w.0 o (word_off (decimal index) (IsPlain-decimal index t.0) (last_word v (input_plain value w.2 t.1)))) in
-    (a, decimal index, v, words_read words, operand_read object w.0 o, IsNumber-decimal index t.0, input_read value w.2 t.1)
-spelling_is_read (Load root object index) w s =
-    let o = operand_front object _ s.1 in
-    let t = operand_spelled object _ s.1 in
-    let a = text_of_pieces (operand_pieces object) in
-    let words : IsCut (command_text (Load root object index)) (codes "load" ∷ root ∷ a ∷ decimal index ∷ []) =
-    word_off (codes "load") (plain_text (codes "load") refl) (word_off root (IsPlain-ident root w.0) (operand_off object _ w.1 o (last_number index t.0))) in
-    (a, decimal index, words_read words, w.0, operand_read object w.1 o, IsNumber-decimal index t.0)
-spelling_is_read (Same left right) w s =
-    let o = operand_front left _ s in
-    let t = operand_spelled left _ s in
-    let a = text_of_pieces (operand_pieces left) in
-    let b = text_of_pieces (operand_pieces right) in
-    let words : IsCut (command_text (Same left right)) (codes "same" ∷ a ∷ b ∷ []) =
-    word_off (codes "same") (plain_text (codes "same") refl) (operand_off left _ w.0 o (last_word b (operand_plain right w.1 t))) in
-    (a, b, words_read words, operand_read left w.0 o, operand_read right w.1 t)
-spelling_is_read Gc w s = refl
+words_are : (words : List FormWord) → AreWritable words → AreFormWords (map word_text words) words
+words_are [] h = refl
+words_are (word ∷ words) h = (word_text word, map word_text words, refl, word_read word h.0, words_are words h.1)
+
+-- the fixed bytes of each form are plain, and no form is empty
+
+form_plain : (command : Command) → HasLine command → are_plain (form_of command) ≡ true
+form_plain (New root fields guard style) h = rw (h.0, h.1) refl
+form_plain _ h = refl
+
+abbrev IsSome : List FormWord → Type 0
+IsSome [] = ⊥
+IsSome (word ∷ words) = Unit {0}
+
+form_some : (command : Command) → IsSome (form_of command)
+form_some Gc = tt
+form_some _ = tt
+
+form_read : (words : List FormWord) → IsSome words → are_plain words ≡ true → AreWritable words →
+    AreFormWords (words_of (without_cr (text_of_pieces (spaced_pieces words)))) words
+form_read [] some e h = absurd some
+form_read (word ∷ words) some e h = rw (words_read (words_cut word words e h)) (words_are (word ∷ words) h)
+
+pub spelling_is_read : (command : Command) → IsWritable command → IsReading (command_text command) (Some command)
+spelling_is_read command h = (form_read (form_of command) (form_some command) (form_plain command h.1) h.0, h.1)

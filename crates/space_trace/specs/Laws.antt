@@ -1,17 +1,16 @@
 -- What holds of the trace language: spellings are read as their commands, and a line is at most one command.
 use Rattle.std.specs.Prelude.{◌≡◌, ℕ, List, Option, Some}
 use Rattle.space_model.specs.declared.command.Command.{Command}
-use Rattle.space_model.specs.CommandTexts.{command_pieces, command_text, IsWritable}
+use Rattle.space_model.specs.CommandTexts.{command_text, IsWritable}
 use Rattle.space_model.specs.Grammar.{IsReading, Commands}
-use Rattle.space_model.specs.Spelling.{IsSpelled}
 
--- the spelling of a command in the grammar is read as that command
+-- the spelling of a command that can be written is read as that command
 abbrev pub SpellingsAreRead : Type 0
-SpellingsAreRead = (command : Command) → IsWritable command → IsSpelled (command_pieces command) → IsReading (command_text command) (Some command)
+SpellingsAreRead = (command : Command) → IsWritable command → IsReading (command_text command) (Some command)
 
--- two commands in the grammar have two spellings
+-- two commands that can be written have two spellings
 abbrev pub SpellingsDiffer : Type 0
-SpellingsDiffer = (a b : Command) → IsWritable a → IsSpelled (command_pieces a) → IsWritable b → IsSpelled (command_pieces b) → command_text a ≡ command_text b → a ≡ b
+SpellingsDiffer = (a b : Command) → IsWritable a → IsWritable b → command_text a ≡ command_text b → a ≡ b
 
 -- a line has at most one reading: it is blank, or it is one command
 abbrev pub ReadingsAreOne : Type 0

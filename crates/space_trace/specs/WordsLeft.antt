@@ -14,7 +14,7 @@ abbrev pub HasNoSpace : List ℕ → Type 0
 HasNoSpace [] = Unit {0}
 HasNoSpace (b ∷ bs) = ((b == 32) ≡ false) × HasNoSpace bs
 
--- the word stands at the front with a space, and the rest after it
+-- the line begins with the word and a space, and the rest comes after it
 pub record IsWordCut (line word rest : List ℕ) : Type 0 where
   pub whole : line ≡ word ++ 32 ∷ rest
   pub no_space : HasNoSpace word

@@ -1,64 +1,37 @@
-// The lines of commands, without their LF.
-ghost use Rattle.std.specs.Prelude.{◌≡◌, ◌≤◌, ◌<◌, ◌+◌, ◌++◌, [], ◌∷◌, length};
+// The lines of all commands: each is read and put by the file of its theme.
+ghost use Rattle.std.specs.Prelude.{◌≡◌, ◌<◌, [], ◌∷◌};
 ghost use Rattle.arrayvec.specs.ArrayVec.{array_vec_len};
-ghost use Rattle.space_model.specs.CommandTexts.{operand_pieces, input_pieces, guard_text, style_text, command_pieces};
+ghost use Rattle.space_model.specs.CommandTexts.{command_pieces};
 ghost use Rattle.space_model.specs.Spelling.{text_of_pieces, IsSpelled};
+ghost use Rattle.space_trace.specs.WordsLeft.{words_in, ReadsWords};
 
-use crate::line::{Line, put, put_decimal, put_hex};
-use space_model::{Command, Guard, Input, Operand, Style};
+use crate::collection_commands::{put_gc, read_gc};
+use crate::line::Line;
+use crate::new_command::{put_new, read_new};
+use crate::object_commands::{put_same, put_store, read_same, read_store};
+use crate::root_commands::{put_drop, put_load, put_set, read_drop, read_load, read_set};
+use crate::stack_commands::{put_pop, put_push, put_raw, read_pop, read_push, read_raw};
+use space_model::Command;
 
-fn put_operand(line: &mut Line, operand: Operand)
-    requires { array_vec_len line.old ≤ 150 }
-    ensures items { line.new.items ≡ line.old.items ++ text_of_pieces (operand_pieces operand) }
-    ensures len { array_vec_len line.new ≤ array_vec_len line.old + 41 }
-    ensures spelled { IsSpelled (operand_pieces operand) }
+/// The command of a line whose first word this is.
+pub fn read_words(name: &[u8], rest: Option<&[u8]>) -> Option<Command>
+    ensures { ReadsWords (name.now ∷ words_in rest.entry) result }
 {
-    match operand {
-        Operand::Root(name) => put(line, name.bytes()),
-        Operand::Word(place) => {
-            put(line, b"@");
-            put_decimal(line, place);
-        }
+    match name {
+        _ if name == b"new".as_slice() => read_new(rest),
+        _ if name == b"set".as_slice() => read_set(rest),
+        _ if name == b"drop".as_slice() => read_drop(rest),
+        _ if name == b"push".as_slice() => read_push(rest),
+        _ if name == b"raw".as_slice() => read_raw(rest),
+        _ if name == b"pop".as_slice() => read_pop(rest),
+        _ if name == b"store".as_slice() => read_store(rest),
+        _ if name == b"load".as_slice() => read_load(rest),
+        _ if name == b"same".as_slice() => read_same(rest),
+        _ if name == b"gc".as_slice() => read_gc(rest),
+        _ => None,
     }
 }
 
-fn put_input(line: &mut Line, input: Input)
-    requires { array_vec_len line.old ≤ 150 }
-    ensures items { line.new.items ≡ line.old.items ++ text_of_pieces (input_pieces input) }
-    ensures len { array_vec_len line.new ≤ array_vec_len line.old + 41 }
-    ensures spelled { IsSpelled (input_pieces input) }
-{
-    match input {
-        Input::From(operand) => put_operand(line, operand),
-        Input::Nil => put(line, b"nil"),
-        Input::Small(number) => {
-            put(line, b"=");
-            put_decimal(line, number);
-        }
-    }
-}
-
-fn guard_bytes(guard: Guard) -> &'static [u8]
-    ensures text { result.now ≡ guard_text guard }
-    ensures len { length result.now ≤ 2 }
-{
-    match guard {
-        Guard::Protected => b" P",
-        Guard::Unprotected => b" U",
-    }
-}
-
-fn style_bytes(style: Style) -> &'static [u8]
-    ensures text { result.now ≡ style_text style }
-    ensures len { length result.now ≤ 2 }
-{
-    match style {
-        Style::Movable => b" M",
-        Style::Keeping => b" K",
-    }
-}
-
-#[tactic(auto, using(crate::proofs::PieceLemmas::text_of_pieces_append, crate::proofs::PieceLemmas::spelled_append))]
 /// Puts the command's line into an empty one.
 pub fn put_command(line: &mut Line, command: Command)
     requires { line.old.items ≡ [] }
@@ -72,63 +45,23 @@ pub fn put_command(line: &mut Line, command: Command)
             fields,
             guard,
             style,
-        } => {
-            put(line, b"new ");
-            put(line, root.bytes());
-            put(line, b" ");
-            put_decimal(line, fields);
-            put(line, guard_bytes(guard));
-            put(line, style_bytes(style));
-        }
-        Command::Set { root, value } => {
-            put(line, b"set ");
-            put(line, root.bytes());
-            put(line, b" ");
-            put_input(line, value);
-        }
-        Command::DropRoot { root } => {
-            put(line, b"drop ");
-            put(line, root.bytes());
-        }
-        Command::Push { value } => {
-            put(line, b"push ");
-            put_input(line, value);
-        }
-        Command::Raw { word } => {
-            put(line, b"raw ");
-            put_hex(line, word);
-        }
-        Command::Pop => put(line, b"pop"),
+        } => put_new(line, root, fields, guard, style),
+        Command::Set { root, value } => put_set(line, root, value),
+        Command::DropRoot { root } => put_drop(line, root),
+        Command::Push { value } => put_push(line, value),
+        Command::Raw { word } => put_raw(line, word),
+        Command::Pop => put_pop(line),
         Command::Store {
             object,
             index,
             value,
-        } => {
-            put(line, b"store ");
-            put_operand(line, object);
-            put(line, b" ");
-            put_decimal(line, index);
-            put(line, b" ");
-            put_input(line, value);
-        }
+        } => put_store(line, object, index, value),
         Command::Load {
             root,
             object,
             index,
-        } => {
-            put(line, b"load ");
-            put(line, root.bytes());
-            put(line, b" ");
-            put_operand(line, object);
-            put(line, b" ");
-            put_decimal(line, index);
-        }
-        Command::Same { left, right } => {
-            put(line, b"same ");
-            put_operand(line, left);
-            put(line, b" ");
-            put_operand(line, right);
-        }
-        Command::Gc => put(line, b"gc"),
+        } => put_load(line, root, object, index),
+        Command::Same { left, right } => put_same(line, left, right),
+        Command::Gc => put_gc(line),
     }
 }

@@ -1,9 +1,13 @@
 // The operands and values of a line.
-ghost use Rattle.std.specs.Prelude.{◌≡◌, ℕ, MatchOption};
+ghost use Rattle.std.specs.Prelude.{◌≡◌, ◌≤◌, ◌+◌, ◌++◌, ℕ, MatchOption};
+ghost use Rattle.arrayvec.specs.ArrayVec.{array_vec_len};
+ghost use Rattle.space_model.specs.CommandTexts.{operand_pieces, input_pieces};
+ghost use Rattle.space_model.specs.Spelling.{text_of_pieces, IsSpelled};
 ghost use Rattle.space_model.specs.declared.command.Input.{Input as TheInput};
 ghost use Rattle.space_model.specs.declared.command.Operand.{Operand as TheOperand};
 ghost use Rattle.space_model.specs.Grammar.{IsOperand, IsInput};
 
+use crate::line::{Line, put, put_decimal};
 use crate::numbers::read_number;
 use space_model::{Ident, Input, Operand};
 
@@ -60,5 +64,38 @@ pub fn read_input(word: &[u8]) -> Option<Input>
     match read_small(word) {
         Some(number) => Some(Input::Small(number)),
         None => None,
+    }
+}
+
+/// Puts the operand at the end of the line, which has 150 bytes at most before.
+pub fn put_operand(line: &mut Line, operand: Operand)
+    requires { array_vec_len line.old ≤ 150 }
+    ensures items { line.new.items ≡ line.old.items ++ text_of_pieces (operand_pieces operand) }
+    ensures len { array_vec_len line.new ≤ array_vec_len line.old + 41 }
+    ensures spelled { IsSpelled (operand_pieces operand) }
+{
+    match operand {
+        Operand::Root(name) => put(line, name.bytes()),
+        Operand::Word(place) => {
+            put(line, b"@");
+            put_decimal(line, place);
+        }
+    }
+}
+
+/// Puts the value at the end of the line, which has 150 bytes at most before.
+pub fn put_input(line: &mut Line, input: Input)
+    requires { array_vec_len line.old ≤ 150 }
+    ensures items { line.new.items ≡ line.old.items ++ text_of_pieces (input_pieces input) }
+    ensures len { array_vec_len line.new ≤ array_vec_len line.old + 41 }
+    ensures spelled { IsSpelled (input_pieces input) }
+{
+    match input {
+        Input::From(operand) => put_operand(line, operand),
+        Input::Nil => put(line, b"nil"),
+        Input::Small(number) => {
+            put(line, b"=");
+            put_decimal(line, number);
+        }
     }
 }

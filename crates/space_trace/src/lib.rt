@@ -2,14 +2,18 @@
 //! The trace language is this project's own.
 #![tactic(auto)]
 
+mod collection_commands;
 mod commands;
-mod forms;
 mod inputs;
 mod laws;
 mod line;
+mod new_command;
 mod numbers;
+mod object_commands;
 mod outputs;
 mod reader;
+mod root_commands;
+mod stack_commands;
 #[cfg(test)]
 mod tests;
 mod words;

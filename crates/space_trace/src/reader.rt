@@ -3,7 +3,7 @@ ghost use Rattle.std.specs.Prelude.{◌≡◌, ◌↔◌, Option, IsTrue, IfOk, 
 ghost use Rattle.space_model.specs.declared.command.Command.{Command as TheCommand};
 ghost use Rattle.space_model.specs.Grammar.{without_cr, IsBlank, IsReading};
 
-use crate::forms::read_words;
+use crate::commands::read_words;
 use crate::words::next_word;
 use space_model::Command;
 

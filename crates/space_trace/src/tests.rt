@@ -1,7 +1,7 @@
 // Each form of a line once, with texts that were written by hand.
 use crate::{read_command, write_command, write_event, write_reply};
 use space_io::MemorySink;
-use space_model::{Event, Kind, Refusal, Reply, Value};
+use space_model::{Event, Kind, PAGE_BYTES, Refusal, Reply, Value};
 use std::alloc::{AllocError as NoMemory, Global};
 use std::test::Fail;
 
@@ -123,7 +123,7 @@ const REPLIES: [(Reply, &[u8]); 20] = [
     (
         Reply::Made {
             name: 1,
-            address: 65536,
+            address: PAGE_BYTES,
         },
         b"#1 0x10000\n",
     ),

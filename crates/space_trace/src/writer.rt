@@ -28,7 +28,7 @@ fn write_line<K: Sink>(line: &mut Line, sink: &mut K) -> Result<(), WriteFault>
     write_all(sink, line.as_slice())
 }
 
-/// Writes the line of the command. At an `Err` only a part of it, from its front, was written.
+/// Writes the line of the command. At an `Err` only a prefix of it was written, maybe none.
 ///
 /// A command that no line spells is written too; no clause says how its line is read.
 pub fn write_command<K: Sink>(command: &Command, sink: &mut K) -> Result<(), WriteFault>
@@ -43,7 +43,7 @@ pub fn write_command<K: Sink>(command: &Command, sink: &mut K) -> Result<(), Wri
     write_line(&mut line, sink)
 }
 
-/// Writes the line of the event. At an `Err` only a part of it, from its front, was written.
+/// Writes the line of the event. At an `Err` only a prefix of it was written, maybe none.
 pub fn write_event<K: Sink>(event: &Event, sink: &mut K) -> Result<(), WriteFault>
     ensures bytes { OnOk result (Appends (K.written sink.old) (K.written sink.new) (line_of_pieces (event_pieces event.now))) }
     ensures prefix { AppendsPrefix (K.written sink.old) (K.written sink.new) (line_of_pieces (event_pieces event.now)) }
@@ -56,7 +56,7 @@ pub fn write_event<K: Sink>(event: &Event, sink: &mut K) -> Result<(), WriteFaul
     write_line(&mut line, sink)
 }
 
-/// Writes the line of the reply. At an `Err` only a part of it, from its front, was written.
+/// Writes the line of the reply. At an `Err` only a prefix of it was written, maybe none.
 pub fn write_reply<K: Sink>(reply: &Reply, sink: &mut K) -> Result<(), WriteFault>
     ensures bytes { OnOk result (Appends (K.written sink.old) (K.written sink.new) (line_of_pieces (reply_pieces reply.now))) }
     ensures prefix { AppendsPrefix (K.written sink.old) (K.written sink.new) (line_of_pieces (reply_pieces reply.now)) }
@@ -69,7 +69,7 @@ pub fn write_reply<K: Sink>(reply: &Reply, sink: &mut K) -> Result<(), WriteFaul
     write_line(&mut line, sink)
 }
 
-/// Writes that the line with this number is malformed or too long. At an `Err` only a part of it, from its front, was written.
+/// Writes that the line with this number is malformed or too long. At an `Err` only a prefix of it was written, maybe none.
 pub fn write_malformed<K: Sink>(number: u64, sink: &mut K) -> Result<(), WriteFault>
     ensures bytes { OnOk result (Appends (K.written sink.old) (K.written sink.new) (line_of_pieces (malformed_pieces number))) }
     ensures prefix { AppendsPrefix (K.written sink.old) (K.written sink.new) (line_of_pieces (malformed_pieces number)) }

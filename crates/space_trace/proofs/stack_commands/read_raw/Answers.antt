@@ -1,6 +1,6 @@
 use Rattle.space_trace.specs.WordsLeft.{words_in}
 use Rattle.space_trace.proofs.ReadingLemmas.{no_raw}
-use Rattle.space_trace.proofs.forms.read_raw.Goals as goal
+use Rattle.space_trace.proofs.stack_commands.read_raw.Goals as goal
 
 pub returns-in_err-word-2 : goal.returns-in_err-word-2
 returns-in_err-word-2 c =

@@ -1,0 +1,68 @@
+// The line of the command that makes objects.
+ghost use Rattle.std.specs.Prelude.{◌≡◌, ◌≤◌, ◌<◌, ◌∷◌, [], length, codes};
+ghost use Rattle.arrayvec.specs.ArrayVec.{array_vec_len};
+ghost use Rattle.space_model.specs.CommandTexts.{command_pieces};
+ghost use Rattle.space_model.specs.Grammar.{guard_word, style_word};
+ghost use Rattle.space_model.specs.Spelling.{text_of_pieces, IsSpelled};
+ghost use Rattle.space_trace.specs.WordsLeft.{words_in, ReadsWords};
+
+use crate::line::{Line, put, put_decimal};
+use crate::numbers::read_number;
+use crate::words::four_words;
+use space_model::{Command, Guard, Ident, Style};
+
+/// The command of the words after `new`.
+pub fn read_new(rest: Option<&[u8]>) -> Option<Command>
+    ensures { ReadsWords (codes "new" ∷ words_in rest.entry) result }
+{
+    let (root, fields, guard, style) = four_words(rest)?;
+    let root = Ident::read(root)?;
+    let fields = read_number(fields)?;
+    if guard != b"P".as_slice() || style != b"M".as_slice() {
+        return None;
+    }
+    Some(Command::New {
+        root,
+        fields,
+        guard: Guard::Protected,
+        style: Style::Movable,
+    })
+}
+
+fn guard_bytes(guard: Guard) -> &'static [u8]
+    ensures text { result.now ≡ guard_word guard }
+    ensures len { length result.now ≤ 1 }
+{
+    match guard {
+        Guard::Protected => b"P",
+        Guard::Unprotected => b"U",
+    }
+}
+
+fn style_bytes(style: Style) -> &'static [u8]
+    ensures text { result.now ≡ style_word style }
+    ensures len { length result.now ≤ 1 }
+{
+    match style {
+        Style::Movable => b"M",
+        Style::Keeping => b"K",
+    }
+}
+
+#[tactic(auto, using(crate::proofs::PieceLemmas::text_of_pieces_append, crate::proofs::PieceLemmas::spelled_append))]
+/// Puts the line of `new` into an empty one.
+pub fn put_new(line: &mut Line, root: Ident, fields: u64, guard: Guard, style: Style)
+    requires { line.old.items ≡ [] }
+    ensures items { line.new.items ≡ text_of_pieces (command_pieces (Command.New root fields guard style)) }
+    ensures len { array_vec_len line.new < 256 }
+    ensures spelled { IsSpelled (command_pieces (Command.New root fields guard style)) }
+{
+    put(line, b"new ");
+    put(line, root.bytes());
+    put(line, b" ");
+    put_decimal(line, fields);
+    put(line, b" ");
+    put(line, guard_bytes(guard));
+    put(line, b" ");
+    put(line, style_bytes(style));
+}

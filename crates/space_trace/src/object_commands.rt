@@ -1,0 +1,67 @@
+// The lines of the commands on objects that write no root.
+ghost use Rattle.std.specs.Prelude.{◌≡◌, ◌<◌, ◌∷◌, [], codes};
+ghost use Rattle.arrayvec.specs.ArrayVec.{array_vec_len};
+ghost use Rattle.space_model.specs.CommandTexts.{command_pieces};
+ghost use Rattle.space_model.specs.Spelling.{text_of_pieces, IsSpelled};
+ghost use Rattle.space_trace.specs.WordsLeft.{words_in, ReadsWords};
+
+use crate::inputs::{put_input, put_operand, read_input, read_operand};
+use crate::line::{Line, put, put_decimal};
+use crate::numbers::read_number;
+use crate::words::{three_words, two_words};
+use space_model::{Command, Input, Operand};
+
+/// The command of the words after `store`.
+pub fn read_store(rest: Option<&[u8]>) -> Option<Command>
+    ensures { ReadsWords (codes "store" ∷ words_in rest.entry) result }
+{
+    let (object, index, value) = three_words(rest)?;
+    let object = read_operand(object)?;
+    let index = read_number(index)?;
+    let value = read_input(value)?;
+    Some(Command::Store {
+        object,
+        index,
+        value,
+    })
+}
+
+#[tactic(auto, using(crate::proofs::PieceLemmas::text_of_pieces_append, crate::proofs::PieceLemmas::spelled_append))]
+/// Puts the line of `store` into an empty one.
+pub fn put_store(line: &mut Line, object: Operand, index: u64, value: Input)
+    requires { line.old.items ≡ [] }
+    ensures items { line.new.items ≡ text_of_pieces (command_pieces (Command.Store object index value)) }
+    ensures len { array_vec_len line.new < 256 }
+    ensures spelled { IsSpelled (command_pieces (Command.Store object index value)) }
+{
+    put(line, b"store ");
+    put_operand(line, object);
+    put(line, b" ");
+    put_decimal(line, index);
+    put(line, b" ");
+    put_input(line, value);
+}
+
+/// The command of the words after `same`.
+pub fn read_same(rest: Option<&[u8]>) -> Option<Command>
+    ensures { ReadsWords (codes "same" ∷ words_in rest.entry) result }
+{
+    let (left, right) = two_words(rest)?;
+    let left = read_operand(left)?;
+    let right = read_operand(right)?;
+    Some(Command::Same { left, right })
+}
+
+#[tactic(auto, using(crate::proofs::PieceLemmas::text_of_pieces_append, crate::proofs::PieceLemmas::spelled_append))]
+/// Puts the line of `same` into an empty one.
+pub fn put_same(line: &mut Line, left: Operand, right: Operand)
+    requires { line.old.items ≡ [] }
+    ensures items { line.new.items ≡ text_of_pieces (command_pieces (Command.Same left right)) }
+    ensures len { array_vec_len line.new < 256 }
+    ensures spelled { IsSpelled (command_pieces (Command.Same left right)) }
+{
+    put(line, b"same ");
+    put_operand(line, left);
+    put(line, b" ");
+    put_operand(line, right);
+}
