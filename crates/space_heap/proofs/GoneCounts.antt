@@ -15,15 +15,15 @@ use Rattle.space_model.specs.Layout.{page_of, page_slots, slot_address}
 use Rattle.space_pools.proofs.Places.{same_address}
 use Rattle.space_heap.specs.Slots.{SlotView, Free}
 use Rattle.space_heap.specs.HeapView.{HeapView, page_at, pool_at, page_with, slot_number, is_slot, slot_at}
-use Rattle.space_heap.specs.Objects.{stands, object_of}
+use Rattle.space_heap.specs.Objects.{is_occupied, object_of}
 use Rattle.space_heap.specs.SoundHeap.{IsSoundHeap}
 use Rattle.space_heap.specs.Sweeping.{is_gone, has_gone, IsGoneOn}
-use Rattle.space_heap.proofs.Starts.{Start, address_start, start_address}
+use Rattle.space_heap.proofs.starts.Starts.{Start, address_start, start_address}
 use Rattle.space_heap.proofs.Laws.{start_of}
-use Rattle.space_heap.proofs.ObjectLaws.{slot_from_stands}
+use Rattle.space_heap.proofs.ObjectLaws.{slot_from_occupied}
 use Rattle.space_heap.proofs.NumberLists.{IsDistinct-map, IsDistinct-none}
 use Rattle.space_heap.proofs.NewPages.{same_counts}
-use Rattle.space_heap.proofs.Unswept.{member_range}
+use Rattle.space_heap.proofs.fields.Unswept.{member_range}
 use Rattle.space_heap.proofs.SweptPages.{slot_by_address}
 
 -- what of a range passes a test is there once
@@ -70,12 +70,13 @@ module _ (v : HeapView) (page : ℕ) (sound : IsSoundHeap v) where
       (λ k b. ap test (get_or-range_with_len 0 (length slots) k 0 (let l = length-range_with_len 0 (length slots) in omega arith) ∙ omega arith))
 
   gone_is : (a : ℕ) → is_gone v a ≡ has_gone (slot_at v a)
-  unfolding stands object_of
+  unfolding is_occupied object_of
   gone_is a = refl
 
   below_end : (slot : ℕ) → is_member nat_eq (range_with_len 0 (length slots)) slot ≡ true → slot < length slots
   below_end slot m =
-      let below : slot < 0 + length slots = ltb-true slot (0 + length slots) (and_parts (nat_le 0 slot) (nat_lt slot (0 + length slots)) (sym (member_range 0 (length slots) slot) ∙ m)).1 in
+      let below : slot < 0 + length slots = ltb-true slot (0 + length slots) (and_parts (nat_le 0 slot) (nat_lt slot (0 + length slots))
+      (sym (member_range 0 (length slots) slot) ∙ m)).1 in
       omega arith
 
   within : (slot : ℕ) → is_member nat_eq those slot ≡ true → (slot < length slots) × (test slot ≡ true)
@@ -104,15 +105,18 @@ module _ (v : HeapView) (page : ℕ) (sound : IsSoundHeap v) where
 
     back : (a : ℕ) → IsGoneOn v page a → is_member nat_eq (map address those) a ≡ true
     back a g =
-        let standing : stands v a ≡ true = (and_parts _ _ g.0).0 in
-        let at : is_slot v a ≡ true = slot_from_stands v a standing in
+        let standing : is_occupied v a ≡ true = (and_parts _ _ g.0).0 in
+        let at : is_slot v a ≡ true = slot_from_occupied v a standing in
         let own : (page_with v a).pool ≡ Some pool = ap (pool_at v) g.1 ∙ its in
         let start = start_of v a at in
         let slot : ℕ = slot_number (Some pool) a in
         let number : slot_number (page_with v a).pool a ≡ slot = ap (λ o. slot_number o a) own in
-        let here : slot < length slots = subst (λ k. slot < length (page_at v k).slots) g.1 (subst (λ k. k < length (page_with v a).slots) number start.within) in
-        let is : a ≡ address slot = start_address pool (length (page_with v a).slots) a (subst (λ o. Start o (length (page_with v a).slots) a) own start) ∙ ap (λ k. slot_address k pool slot) g.1 in
-        let t : test slot ≡ true = ap has_gone (sym (slot_by_address v page sound pool slot its here)) ∙ sym (gone_is (address slot)) ∙ ap (is_gone v) (sym is) ∙ g.0 in
+        let here : slot < length slots = subst (λ k. slot < length (page_at v k).slots) g.1
+        (subst (λ k. k < length (page_with v a).slots) number start.within) in
+        let is : a ≡ address slot = start_address pool (length (page_with v a).slots) a (subst (λ o. Start o (length (page_with v a).slots) a) own start)
+        ∙ ap (λ k. slot_address k pool slot) g.1 in
+        let t : test slot ≡ true = ap has_gone (sym (slot_by_address v page sound pool slot its here)) ∙ sym (gone_is (address slot))
+        ∙ ap (is_gone v) (sym is) ∙ g.0 in
         subst (λ x. is_member nat_eq (map address those) x ≡ true) (sym is) (member_map address those slot (member slot here t))
 
     count_pool : CountIs (IsGoneOn v page) (count_by has_gone slots)
@@ -135,7 +139,7 @@ module _ (v : HeapView) (page : ℕ) (sound : IsSoundHeap v) where
         are = λ a. (
           λ m. absurd (true≢false (sym m)),
           λ g.
-              let at : is_slot v a ≡ true = slot_from_stands v a (and_parts _ _ g.0).0 in
+              let at : is_slot v a ≡ true = slot_from_occupied v a (and_parts _ _ g.0).0 in
               let w = (start_of v a at).within in
               let l : length (page_with v a).slots ≡ 0 = ap (λ k. length (page_at v k).slots) g.1 ∙ none in
               absurd (omega arith),

@@ -5,7 +5,7 @@ use Rattle.std.proofs.lemmas.List.{get_or-set_same, get_or-set_other, length-set
 use Rattle.space_model.specs.Layout.{page_of}
 use Rattle.space_heap.specs.Slots.{SlotView, Free}
 use Rattle.space_heap.specs.HeapView.{PageView, HeapView, no_page, page_at, pool_at, page_with, pool_with, slot_number, is_start, is_slot, slot_at, with_slot_in, with_slot}
-use Rattle.space_heap.proofs.Starts.{Start, start_parts, same_start}
+use Rattle.space_heap.proofs.starts.Starts.{Start, start_parts, same_start}
 
 -- the heap after a slot of a page of its own changed
 abbrev changed : HeapView → ℕ → SlotView → HeapView
@@ -26,11 +26,14 @@ start_of v a e = start_parts (page_with v a).pool (length (page_with v a).slots)
 pub page_in_heap : (v : HeapView) (a : ℕ) → is_slot v a ≡ true → page_of a < length v.pages
 page_in_heap v a e = ⊎_elim
     (λ within. within)
-    (λ past. let n : length (page_with v a).slots ≡ 0 = ap (λ (p : PageView). length p.slots) (get_or_past v.pages (page_of a) no_page past) in let w = (start_of v a e).within in absurd (omega arith))
+    (λ past. let n : length (page_with v a).slots ≡ 0 = ap (λ (p : PageView). length p.slots) (get_or_past v.pages (page_of a) no_page past) in
+    let w = (start_of v a e).within in absurd (omega arith))
     (cases_lt (page_of a) (length v.pages))
 
 -- a page after one slot changed
-page_at-changed : (v : HeapView) (a : ℕ) (s : SlotView) (k : ℕ) → (page_at (changed v a s) k ≡ page_at v k) ⊎ ((k ≡ page_of a) × (page_at (changed v a s) k ≡ with_slot_in (page_at v k) (slot_number (page_at v k).pool a) s))
+page_at-changed : (v : HeapView) (a : ℕ) (s : SlotView) (k : ℕ)
+    → (page_at (changed v a s) k ≡ page_at v k) ⊎ ((k ≡ page_of a)
+    × (page_at (changed v a s) k ≡ with_slot_in (page_at v k) (slot_number (page_at v k).pool a) s))
 page_at-changed v a s k = ⊎_elim
     (λ same. ⊎_elim
     (λ within. inr (
@@ -39,7 +42,8 @@ page_at-changed v a s k = ⊎_elim
           ∙ get_or-set_same v.pages (page_of a) (with_slot_in (page_with v a) (slot_number (page_with v a).pool a) s) no_page within
           ∙ ap (λ k. with_slot_in (page_at v k) (slot_number (page_at v k).pool a) s) (sym same),
     ))
-    (λ past. inl (ap (λ pages. get_or pages k no_page) (set_past v.pages (page_of a) (with_slot_in (page_with v a) (slot_number (page_with v a).pool a) s) past)))
+    (λ past. inl (ap (λ pages. get_or pages k no_page) (set_past v.pages (page_of a) (with_slot_in (page_with v a) (slot_number (page_with v a).pool a) s)
+    past)))
     (cases_lt (page_of a) (length v.pages)))
     (λ other. inl (get_or-set_other v.pages (page_of a) k (with_slot_in (page_with v a) (slot_number (page_with v a).pool a) s) no_page other))
     (cases_eq k (page_of a))
@@ -60,7 +64,8 @@ is_slot-changed v a s b =
     ∙ ap (λ n. is_start (page_with v b).pool n b) (slots-changed v a s (page_of b))
 
 -- a statement of every heap with one slot changed follows from both cases
-by_cases : (v : HeapView) (a : ℕ) (s : SlotView) (P : HeapView → Type 0) → (is_slot v a ≡ false → P v) → (is_slot v a ≡ true → P (changed v a s)) → P (with_slot v a s)
+by_cases : (v : HeapView) (a : ℕ) (s : SlotView) (P : HeapView → Type 0) → (is_slot v a ≡ false → P v) → (is_slot v a ≡ true → P (changed v a s))
+    → P (with_slot v a s)
 by_cases v a s P none some = ⊎_elim
     (λ e. subst P (sym (with_slot_some v a s e)) (some e))
     (λ e. subst P (sym (with_slot_none v a s e)) (none e))
@@ -75,7 +80,8 @@ unfolding pool_with
 pool_with-with_slot v a s b = pool_at-with_slot v a s (page_of b)
 
 pub count-with_slot : (v : HeapView) (a : ℕ) (s : SlotView) → length (with_slot v a s).pages ≡ length v.pages
-count-with_slot v a s = by_cases v a s (λ w. length w.pages ≡ length v.pages) (λ _. refl) (λ _. length-set v.pages (page_of a) (with_slot_in (page_with v a) (slot_number (page_with v a).pool a) s))
+count-with_slot v a s = by_cases v a s (λ w. length w.pages ≡ length v.pages) (λ _. refl)
+    (λ _. length-set v.pages (page_of a) (with_slot_in (page_with v a) (slot_number (page_with v a).pool a) s))
 
 -- slots start where they did
 pub is_slot-with_slot : (v : HeapView) (a : ℕ) (s : SlotView) (b : ℕ) → is_slot (with_slot v a s) b ≡ is_slot v b
@@ -104,13 +110,16 @@ pub slot_at-with_slot_same : (v : HeapView) (a : ℕ) (s : SlotView) → is_slot
 slot_at-with_slot_same v a s e = ap (λ w. slot_at w a) (with_slot_some v a s e) ∙ same_changed v a s e
 
 -- the other slots stay
-other_read : (v : HeapView) (a : ℕ) (s : SlotView) (b : ℕ) → is_slot v a ≡ true → is_slot v b ≡ true → b ≢ a → get_or (page_with (changed v a s) b).slots (slot_number (page_with (changed v a s) b).pool b) Free ≡ get_or (page_with v b).slots (slot_number (page_with v b).pool b) Free
+other_read : (v : HeapView) (a : ℕ) (s : SlotView) (b : ℕ) → is_slot v a ≡ true → is_slot v b ≡ true → b ≢ a
+    → get_or (page_with (changed v a s) b).slots (slot_number (page_with (changed v a s) b).pool b) Free ≡ get_or (page_with v b).slots
+    (slot_number (page_with v b).pool b) Free
 other_read v a s b e f differ = ⊎_elim
     (λ same. ap (λ (p : PageView). get_or p.slots (slot_number p.pool b) Free) same)
     (λ h.
     let pool : (page_with v b).pool ≡ (page_with v a).pool = ap (λ k. (page_at v k).pool) h.0 in
     let apart : slot_number (page_with v b).pool b ≢ slot_number (page_with v b).pool a = λ same.
-    differ (same_start (page_with v b).pool (page_with v a).pool (length (page_with v b).slots) (length (page_with v a).slots) b a (start_of v b f) (start_of v a e) pool h.0 (same ∙ ap (λ p. slot_number p a) pool)) in
+    differ (same_start (page_with v b).pool (page_with v a).pool (length (page_with v b).slots) (length (page_with v a).slots) b a (start_of v b f)
+    (start_of v a e) pool h.0 (same ∙ ap (λ p. slot_number p a) pool)) in
     ap (λ (p : PageView). get_or p.slots (slot_number p.pool b) Free) h.1
     ∙ get_or-set_other (page_with v b).slots (slot_number (page_with v b).pool a) (slot_number (page_with v b).pool b) s Free apart)
     (page_at-changed v a s (page_of b))
@@ -134,4 +143,5 @@ pub record SameRest (v w : HeapView) : Type 0 where
   pub counters : w.counters ≡ v.counters
 
 pub rest-with_slot : (v : HeapView) (a : ℕ) (s : SlotView) → SameRest v (with_slot v a s)
-rest-with_slot v a s = by_cases v a s (SameRest v) (λ _. record { limit = refl; unswept = refl; grey = refl; phase = refl; cursor = refl; counters = refl }) (λ _. record { limit = refl; unswept = refl; grey = refl; phase = refl; cursor = refl; counters = refl })
+rest-with_slot v a s = by_cases v a s (SameRest v) (λ _. record { limit = refl; unswept = refl; grey = refl; phase = refl; cursor = refl; counters = refl })
+    (λ _. record { limit = refl; unswept = refl; grey = refl; phase = refl; cursor = refl; counters = refl })

@@ -7,7 +7,7 @@ use Rattle.std.proofs.lemmas.List.{length-replicate}
 use Rattle.space_model.specs.Layout.{page_of, page_slots}
 use Rattle.space_heap.specs.Slots.{is_free, SlotView, Free, has_object, has_present, object_in, moved_in}
 use Rattle.space_heap.specs.HeapView.{pool_with, PageView, HeapView, no_page, page_at, page_with, is_start, slot_number, is_slot, is_unswept, slot_at, free_page, with_page}
-use Rattle.space_heap.specs.Objects.{stands, is_object, object_of, resolved}
+use Rattle.space_heap.specs.Objects.{is_occupied, is_object, object_of, resolved}
 use Rattle.space_heap.specs.FreeSlots.{is_pool, is_free_at}
 use Rattle.space_heap.proofs.NewPages.{page_at-with_page}
 
@@ -34,7 +34,7 @@ pub both_free : (b : Bool) (s : SlotView) → s ≡ Free → cond b s Free ≡ F
 both_free true s e = e
 both_free false s e = refl
 
-module _ (v : HeapView) (page pool : ℕ) (within : page ≤ length v.pages) (blank : page_at v page ≡ no_page) where
+module _ (v : HeapView) (page pool : ℕ) (within : page ≤ length v.pages) (empty : page_at v page ≡ no_page) where
   abbrev w : HeapView
   w = with_page v page pool
 
@@ -45,13 +45,13 @@ module _ (v : HeapView) (page pool : ℕ) (within : page ≤ length v.pages) (bl
       ap (λ k. slot_on (page_at w k) a) same ∙ ap (λ p. slot_on p a) (page_here v page pool within)
       ∙ both_free _ _ (all_free (page_slots pool) (slot_number (Some pool) a))
       ∙ sym (both_free (is_start None 0 a) Free refl)
-      ∙ sym (ap (λ k. slot_on (page_at v k) a) same ∙ ap (λ p. slot_on p a) blank))
+      ∙ sym (ap (λ k. slot_on (page_at v k) a) same ∙ ap (λ p. slot_on p a) empty))
       (λ other. ap (λ p. slot_on p a) (page_other v page pool (page_of a) within other))
       (cases_eq (page_of a) page) ∙ sym (slot_at_on v a)
 
-  pub stands-with_page : (a : ℕ) → stands w a ≡ stands v a
-  unfolding stands
-  stands-with_page a = ap has_object (slot_at-with_page a)
+  pub is_occupied-with_page : (a : ℕ) → is_occupied w a ≡ is_occupied v a
+  unfolding is_occupied
+  is_occupied-with_page a = ap has_object (slot_at-with_page a)
 
   pub is_object-with_page : (a : ℕ) → is_object w a ≡ is_object v a
   unfolding is_object
@@ -104,10 +104,12 @@ module _ (v : HeapView) (page pool : ℕ) (within : page ≤ length v.pages) (bl
       ∙ both_free _ _ (all_free (page_slots pool) (slot_number (Some pool) a))
 
   -- all slots of the page are free, for its pool alone, where it didn't wait for a sweep
-  pub is_free_at-with_page_same : (q a : ℕ) → page_of a ≡ page → is_unswept v page ≡ false → is_free_at w q a ≡ (is_start (Some pool) (page_slots pool) a && (nat_eq pool q && true))
+  pub is_free_at-with_page_same : (q a : ℕ) → page_of a ≡ page → is_unswept v page ≡ false
+      → is_free_at w q a ≡ (is_start (Some pool) (page_slots pool) a && (nat_eq pool q && true))
   unfolding is_free_at
   is_free_at-with_page_same q a same swept =
       ap (λ x. x && (is_pool (pool_with w a) q && (is_free (slot_at w a) && not (is_unswept w (page_of a))))) (is_slot_same a same)
       ∙ ap (λ x. is_start (Some pool) (page_slots pool) a && (is_pool x q && (is_free (slot_at w a) && not (is_unswept w (page_of a))))) (pool_same a same)
       ∙ ap (λ s. is_start (Some pool) (page_slots pool) a && (nat_eq pool q && (is_free s && not (is_unswept w (page_of a))))) (free_slot a same)
-      ∙ ap (λ x. is_start (Some pool) (page_slots pool) a && (nat_eq pool q && not x)) (ap (λ x. is_member nat_eq x (page_of a)) unswept-with_page ∙ ap (is_unswept v) same ∙ swept)
+      ∙ ap (λ x. is_start (Some pool) (page_slots pool) a && (nat_eq pool q && not x))
+      (ap (λ x. is_member nat_eq x (page_of a)) unswept-with_page ∙ ap (is_unswept v) same ∙ swept)

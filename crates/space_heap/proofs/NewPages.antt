@@ -22,16 +22,18 @@ use Rattle.space_heap.specs.declared.marks.Marks.{Marks}
 use Rattle.space_heap.specs.Slots.{SlotView, Free}
 use Rattle.space_heap.specs.HeapView.{HeapView, no_page, page_at, pool_at, free_page, with_page}
 use Rattle.space_heap.specs.NewPages.{is_spare, spare_count, IsSpareAt, HasNoSpare, IsLeastSpare}
-use Rattle.space_heap.specs.MarkPlanes.{marks_at, clear_marks, AreWide, slot_from}
+use Rattle.space_heap.specs.planes.MarkPlanes.{marks_at, clear_marks, AreWide, slot_from}
 use Rattle.space_heap.specs.Inside.{slot_in, page_from, page_in, pages_from, view_with, FitsSlot, AreMarksOf, AreAllMarks, Rest}
-use Rattle.space_heap.proofs.Views.{length-pages_from, page_read, pool_read}
-use Rattle.space_heap.proofs.Unswept.{unswept_added}
+use Rattle.space_heap.proofs.fields.Views.{length-pages_from, page_read, pool_read}
+use Rattle.space_heap.proofs.fields.Unswept.{unswept_added}
 
-pub page_at-with_page : (v : HeapView) (page pool k : ℕ) → page ≤ length v.pages → page_at (with_page v page pool) k ≡ cond (nat_eq k page) (free_page pool) (page_at v k)
+pub page_at-with_page : (v : HeapView) (page pool k : ℕ) → page ≤ length v.pages
+    → page_at (with_page v page pool) k ≡ cond (nat_eq k page) (free_page pool) (page_at v k)
 unfolding with_page
 page_at-with_page v page pool k h = grind (arith, nat_tests, common_steps)
 
-pub length-with_page : (v : HeapView) (page pool : ℕ) → page ≤ length v.pages → length (with_page v page pool).pages ≡ cond (nat_eq page (length v.pages)) (length v.pages + 1) (length v.pages)
+pub length-with_page : (v : HeapView) (page pool : ℕ) → page ≤ length v.pages
+    → length (with_page v page pool).pages ≡ cond (nat_eq page (length v.pages)) (length v.pages + 1) (length v.pages)
 unfolding with_page
 length-with_page v page pool h = grind (arith, nat_tests, common_steps)
 
@@ -47,7 +49,8 @@ free_page_from pool =
     (λ s h. get_or-replicate n s Free Free (omega arith) ∙ sym (ap (λ f. slot_from f m s) (found_in-free_page pool s))) in
     λ i. record { pool = Some pool; slots = sym e i }
 
-module _ (v : PoolsView) (ms ns : List Marks) (page pool : ℕ) (within : page ≤ length v.pages) (long : length ns ≡ length (with_free_page v page pool).pages) (here : marks_at ns page ≡ clear_marks (page_slots pool)) (other : (k : ℕ) → k ≢ page → marks_at ns k ≡ marks_at ms k) where
+module _ (v : PoolsView) (ms ns : List Marks) (page pool : ℕ) (within : page ≤ length v.pages) (long : length ns ≡ length (with_free_page v page pool).pages)
+    (here : marks_at ns page ≡ clear_marks (page_slots pool)) (other : (k : ℕ) → k ≢ page → marks_at ns k ≡ marks_at ms k) where
   abbrev w : PoolsView
   w = with_free_page v page pool
 
@@ -87,14 +90,15 @@ module _ (v : PoolsView) (ms ns : List Marks) (page pool : ℕ) (within : page �
       λ i. record h { pages = sym e i; unswept = unswept_added v page pool within swept i }
 
   clear_wide : (n : ℕ) → AreWide (clear_marks n) n
-  clear_wide n = let e : length (replicate n false) ≡ n = length-replicate n false in record { object = e; moved = e; guard = e; marked = e; black = e; age_low = e; age_high = e; remembered = e; kept = e; pinned = e; dead = e }
+  clear_wide n = let e : length (replicate n false) ≡ n = length-replicate n false in
+      record { object = e; moved = e; guard = e; marked = e; black = e; age_low = e; age_high = e; remembered = e; kept = e; pinned = e; gone = e }
 
   clear_fits : (n s : ℕ) → FitsSlot None (clear_marks n) s
   clear_fits n s = record {
     object = bit-replicate n s;
     moved = λ e. absurd (true≢false (sym e ∙ bit-replicate n s));
     words = λ words e stays. cc;
-    dead = λ e. absurd (true≢false (sym e ∙ bit-replicate n s));
+    gone = λ e. absurd (true≢false (sym e ∙ bit-replicate n s));
   }
 
   clear_page : AreMarksOf (pools_free_page pool) (clear_marks (page_slots pool))
@@ -107,8 +111,10 @@ module _ (v : PoolsView) (ms ns : List Marks) (page pool : ℕ) (within : page �
   added_marks all = record {
     all = long;
     of_page = λ k. ⊎_elim
-        (λ same. subst (λ k. AreMarksOf (pools_page w k) (marks_at ns k)) (sym same) (subst (λ p. AreMarksOf p (marks_at ns page)) (sym w_here) (subst (AreMarksOf (pools_free_page pool)) (sym here) clear_page)))
-        (λ differ. subst (λ p. AreMarksOf p (marks_at ns k)) (sym (w_other k differ)) (subst (AreMarksOf (pools_page v k)) (sym (other k differ)) (all.of_page k)))
+        (λ same. subst (λ k. AreMarksOf (pools_page w k) (marks_at ns k)) (sym same)
+        (subst (λ p. AreMarksOf p (marks_at ns page)) (sym w_here) (subst (AreMarksOf (pools_free_page pool)) (sym here) clear_page)))
+        (λ differ. subst (λ p. AreMarksOf p (marks_at ns k)) (sym (w_other k differ))
+        (subst (AreMarksOf (pools_page v k)) (sym (other k differ)) (all.of_page k)))
         (cases_eq k page);
   }
 
@@ -126,14 +132,16 @@ counted_none p (x ∷ xs) d h =
     sum_by-cons (λ x. cond (p x) 1 0) x xs ∙ ap (λ b. cond b 1 0 + count_by p xs) first ∙ ap (λ n. 0 + n) rest
 
 -- pages with the same tests have the same counts
-pub same_counts : {X Y : Type 0} (p : X → Bool) (q : Y → Bool) (xs : List X) (ys : List Y) (d : X) (e : Y) → length xs ≡ length ys → ((k : ℕ) → k < length xs → p (get_or xs k d) ≡ q (get_or ys k e)) → count_by p xs ≡ count_by q ys
+pub same_counts : {X Y : Type 0} (p : X → Bool) (q : Y → Bool) (xs : List X) (ys : List Y) (d : X) (e : Y) → length xs ≡ length ys
+    → ((k : ℕ) → k < length xs → p (get_or xs k d) ≡ q (get_or ys k e)) → count_by p xs ≡ count_by q ys
 same_counts p q [] [] d e same each = refl
 same_counts p q [] (y ∷ ys) d e same each = absurd (omega arith)
 same_counts p q (x ∷ xs) [] d e same each = absurd (omega arith)
 same_counts p q (x ∷ xs) (y ∷ ys) d e same each =
     let first : p x ≡ q y = each 0 (omega arith) in
     let rest : count_by p xs ≡ count_by q ys = same_counts p q xs ys d e (omega arith) (λ k b. each (suc k) (omega arith)) in
-    sum_by-cons (λ x. cond (p x) 1 0) x xs ∙ ap (λ b. cond b 1 0 + count_by p xs) first ∙ ap (λ n. cond (q y) 1 0 + n) rest ∙ sym (sum_by-cons (λ y. cond (q y) 1 0) y ys)
+    sum_by-cons (λ x. cond (p x) 1 0) x xs ∙ ap (λ b. cond b 1 0 + count_by p xs) first ∙ ap (λ n. cond (q y) 1 0 + n) rest
+    ∙ sym (sum_by-cons (λ y. cond (q y) 1 0) y ys)
 
 none_pool : (pool : Option ℕ) → is_none pool ≡ true → pool ≡ None
 none_pool None e = refl
@@ -154,7 +162,8 @@ module _ (v : PoolsView) (ms : List Marks) (rest : Rest) where
   h = view_with v ms rest
 
   pub spare_count_read : pools.spare_count v ≡ spare_count h
-  spare_count_read = same_counts pools.is_spare is_spare v.pages (pages_from v ms) spare_page no_page (sym (length-pages_from v ms)) (λ k _. ap is_none (sym (pool_read v ms k)))
+  spare_count_read = same_counts pools.is_spare is_spare v.pages (pages_from v ms) spare_page no_page (sym (length-pages_from v ms))
+      (λ k _. ap is_none (sym (pool_read v ms k)))
 
   pub spare_read : (k : ℕ) → pools.IsSpareAt v k → IsSpareAt h k
   spare_read k s = (let n = length-pages_from v ms in let b = s.0 in omega arith, pool_read v ms k ∙ s.1)
@@ -172,8 +181,8 @@ module _ (v : PoolsView) (ms : List Marks) (rest : Rest) where
   least_spare_read k l = record { spare = spare_read k l.spare; least = λ other s. l.least other (spare_back other s) }
 
   -- a page without a pool has no slot
-  pub blank_read : (k : ℕ) → IsSoundPools v → pools_pool v k ≡ None → page_at h k ≡ no_page
-  blank_read k sound its =
+  pub empty_read : (k : ℕ) → IsSoundPools v → pools_pool v k ≡ None → page_at h k ≡ no_page
+  empty_read k sound its =
       let e : length (pools_page v k).slots ≡ 0 = (sound.sound k).long ∙ ap count_of its in
       let p : PageSlots = pools_page v k in
       let m : Marks = marks_at ms k in
@@ -197,7 +206,8 @@ aside ms m k differ = ⊎_elim
     get_or_past (ms ++ m ∷ []) k (clear_marks 0) (omega arith) ∙ sym (get_or_past ms k (clear_marks 0) (omega arith)))
     (cases_lt k (length ms))
 
-pub page_appended : (v : PoolsView) (ms ns : List Marks) (page pool : ℕ) → length ms ≡ length v.pages → page ≡ length v.pages → ns ≡ ms ++ clear_marks (page_slots pool) ∷ [] → PageAdded v ms ns page pool
+pub page_appended : (v : PoolsView) (ms ns : List Marks) (page pool : ℕ) → length ms ≡ length v.pages → page ≡ length v.pages
+    → ns ≡ ms ++ clear_marks (page_slots pool) ∷ [] → PageAdded v ms ns page pool
 page_appended v ms ns page pool all is e = record {
   within = omega arith;
   long =
@@ -209,7 +219,8 @@ page_appended v ms ns page pool all is e = record {
   other = λ k differ. ap (λ ns. marks_at ns k) e ∙ aside ms (clear_marks (page_slots pool)) k (λ same. differ (same ∙ all ∙ sym is));
 }
 
-pub page_reset : (v : PoolsView) (ms ns : List Marks) (page pool : ℕ) → length ms ≡ length v.pages → page < length v.pages → ns ≡ set ms page (clear_marks (page_slots pool)) → PageAdded v ms ns page pool
+pub page_reset : (v : PoolsView) (ms ns : List Marks) (page pool : ℕ) → length ms ≡ length v.pages → page < length v.pages
+    → ns ≡ set ms page (clear_marks (page_slots pool)) → PageAdded v ms ns page pool
 page_reset v ms ns page pool all below e = record {
   within = omega arith;
   long =
@@ -232,12 +243,16 @@ unfolding with_free_page
 limit_with_free_page v page pool = refl
 
 -- there are as many pages as before, or one more
-pub places_kept : (v : PoolsView) (page pool room : ℕ) → page < length v.pages → 1638 * length v.pages ≤ room → 1638 * length (with_free_page v page pool).pages ≤ room
+pub places_kept : (v : PoolsView) (page pool room : ℕ) → page < length v.pages → 1638 * length v.pages ≤ room
+    → 1638 * length (with_free_page v page pool).pages ≤ room
 places_kept v page pool room below h =
-    let e : length (with_free_page v page pool).pages ≡ length v.pages = length-with_free_page v page pool (omega arith) ∙ cond-false (nat_eq page (length v.pages)) (length v.pages + 1) (length v.pages) (grind (arith, nat_tests)) in
+    let e : length (with_free_page v page pool).pages ≡ length v.pages = length-with_free_page v page pool (omega arith)
+    ∙ cond-false (nat_eq page (length v.pages)) (length v.pages + 1) (length v.pages) (grind (arith, nat_tests)) in
     omega arith
 
-pub places_made : (v : PoolsView) (page pool room : ℕ) → page ≡ length v.pages → 1638 * (length v.pages + 1) ≤ room → 1638 * length (with_free_page v page pool).pages ≤ room
+pub places_made : (v : PoolsView) (page pool room : ℕ) → page ≡ length v.pages → 1638 * (length v.pages + 1) ≤ room
+    → 1638 * length (with_free_page v page pool).pages ≤ room
 places_made v page pool room last h =
-    let e : length (with_free_page v page pool).pages ≡ length v.pages + 1 = length-with_free_page v page pool (omega arith) ∙ cond-true (nat_eq page (length v.pages)) (length v.pages + 1) (length v.pages) (grind (arith, nat_tests)) in
+    let e : length (with_free_page v page pool).pages ≡ length v.pages + 1 = length-with_free_page v page pool (omega arith)
+    ∙ cond-true (nat_eq page (length v.pages)) (length v.pages + 1) (length v.pages) (grind (arith, nat_tests)) in
     omega arith

@@ -32,7 +32,8 @@ IsDistinct-none = tt
 pub take_last : (xs : List ℕ) (d : ℕ) → 0 < length xs → take (length xs - 1) xs ++ get_or xs (length xs - 1) d ∷ [] ≡ xs
 take_last xs d h = grind (arith, common_steps)
 
-apart-map : (f : ℕ → ℕ) (x : ℕ) (xs : List ℕ) → ((y : ℕ) → is_member nat_eq xs y ≡ true → f x ≡ f y → x ≡ y) → AllByRecursion (λ y. nat_eq x y ≡ false) xs → AllByRecursion (λ y. nat_eq (f x) y ≡ false) (map f xs)
+apart-map : (f : ℕ → ℕ) (x : ℕ) (xs : List ℕ) → ((y : ℕ) → is_member nat_eq xs y ≡ true → f x ≡ f y → x ≡ y) → AllByRecursion (λ y. nat_eq x y ≡ false) xs
+    → AllByRecursion (λ y. nat_eq (f x) y ≡ false) (map f xs)
 apart-map f x [] one a = tt
 apart-map f x (y ∷ ys) one a = (
   ne_eqb (f x) (f y) (λ e. eqb-false x y a.0 (one y (or_left (nat_eq y y) _ (grind (arith, nat_tests))) e)),
@@ -40,7 +41,8 @@ apart-map f x (y ∷ ys) one a = (
 )
 
 -- what differs on a list keeps it distinct
-pub IsDistinct-map : (f : ℕ → ℕ) (xs : List ℕ) → ((x y : ℕ) → is_member nat_eq xs x ≡ true → is_member nat_eq xs y ≡ true → f x ≡ f y → x ≡ y) → IsDistinct nat_eq xs → IsDistinct nat_eq (map f xs)
+pub IsDistinct-map : (f : ℕ → ℕ) (xs : List ℕ) → ((x y : ℕ) → is_member nat_eq xs x ≡ true → is_member nat_eq xs y ≡ true → f x ≡ f y → x ≡ y)
+    → IsDistinct nat_eq xs → IsDistinct nat_eq (map f xs)
 unfolding IsDistinct
 IsDistinct-map f [] one d = tt
 IsDistinct-map f (x ∷ xs) one d = (
@@ -56,7 +58,8 @@ below-map f n (x ∷ xs) small q m = ⊎_elim
     (or_cases _ _ m)
 
 -- numbers with different places below n are at most n
-pub few_places : (f : ℕ → ℕ) (n : ℕ) (xs : List ℕ) → IsDistinct nat_eq xs → ((x : ℕ) → is_member nat_eq xs x ≡ true → f x < n) → ((x y : ℕ) → is_member nat_eq xs x ≡ true → is_member nat_eq xs y ≡ true → f x ≡ f y → x ≡ y) → length xs ≤ n
+pub few_places : (f : ℕ → ℕ) (n : ℕ) (xs : List ℕ) → IsDistinct nat_eq xs → ((x : ℕ) → is_member nat_eq xs x ≡ true → f x < n)
+    → ((x y : ℕ) → is_member nat_eq xs x ≡ true → is_member nat_eq xs y ≡ true → f x ≡ f y → x ≡ y) → length xs ≤ n
 few_places f n xs d small one =
     let l = length-le_from_distinct_below (map f xs) n (IsDistinct-map f xs one d) (below-map f n xs small) in
     omega (arith, l, length-map xs f)

@@ -2,16 +2,16 @@
 use Rattle.std.proofs.Common.{◌≡◌, ℕ, refl}
 use Rattle.space_model.specs.declared.phase.Phase.{Phase}
 use Rattle.space_heap.specs.HeapView.{HeapView, is_slot, pool_with, slot_at}
-use Rattle.space_heap.specs.Objects.{stands, is_object, object_of, resolved, is_moved}
+use Rattle.space_heap.specs.Objects.{is_occupied, is_object, object_of, resolved, is_moved}
 use Rattle.space_heap.specs.FreeSlots.{is_free_at}
 
 module _ (v : HeapView) (phase : Phase) where
   abbrev pub in_phase : HeapView
   in_phase = record v { phase = phase }
 
-  pub stands-in_phase : (a : ℕ) → stands in_phase a ≡ stands v a
-  unfolding stands slot_at is_slot
-  stands-in_phase a = refl
+  pub is_occupied-in_phase : (a : ℕ) → is_occupied in_phase a ≡ is_occupied v a
+  unfolding is_occupied slot_at is_slot
+  is_occupied-in_phase a = refl
 
   pub is_object-in_phase : (a : ℕ) → is_object in_phase a ≡ is_object v a
   unfolding is_object slot_at is_slot

@@ -1,22 +1,22 @@
 -- The laws of a verdict, for the callers: what stands where, what is gone, and which pages wait for a sweep.
-use Rattle.std.proofs.Common.{◌≡◌, ⊎_elim, ℕ, ◌≤◌, Bool, true, false, not, ◌&&◌, [], length, get_or, nat_eq, refl, sym, ap, ◌∙◌, subst, arith, Option, None, Some}
+use Rattle.std.proofs.Common.{◌≡◌, ⊎_elim, ℕ, ◌≤◌, Bool, true, false, not, ◌&&◌, [], length, map, nat_eq, refl, sym, ap, ◌∙◌, subst, arith, Option, None, Some}
 use Rattle.std.specs.Prelude.{is_some}
 use Rattle.std.specs.List.{range_with_len, IsDistinct}
 use Rattle.std.specs.Set.{is_member}
-use Rattle.std.proofs.Math.ListN.{get_or-map, length-map}
-use Rattle.std.proofs.lemmas.Bool.{cases_Bool, cases_lt, cond-true, cond-false}
+use Rattle.std.proofs.lemmas.Bool.{cases_Bool, cases_lt}
 use Rattle.std.proofs.lemmas.Bool.Decides.{nat_tests}
 use Rattle.std.proofs.lemmas.List.{get_or_past}
 use Rattle.space_model.proofs.Members.{member_filter}
 use Rattle.space_model.specs.declared.event.Kind.{Kind}
 use Rattle.space_model.specs.Layout.{page_of}
-use Rattle.space_heap.specs.Slots.{ObjectView, SlotView, Free, Moved, Object, has_object, has_present, object_in, moved_in, is_free}
-use Rattle.space_heap.specs.HeapView.{PageView, HeapView, no_page, page_at, pool_at, page_with, pool_with, slot_number, is_start, is_slot, is_unswept, slot_at}
-use Rattle.space_heap.specs.Objects.{stands, is_object, object_of, resolved}
+use Rattle.space_heap.specs.Slots.{ObjectView, SlotView, Free, Moved, Object, has_object, has_present, object_in, is_free, map_slot}
+use Rattle.space_heap.specs.HeapView.{PageView, HeapView, no_page, pool_at, pool_with, is_slot, is_unswept, slot_at, map_page}
+use Rattle.space_heap.specs.Objects.{is_occupied, is_object, is_moved, object_of, resolved}
 use Rattle.space_heap.specs.FreeSlots.{is_pool, is_free_at}
 use Rattle.space_heap.specs.Marking.{colour_of, IsCoherent}
-use Rattle.space_heap.specs.Sweeping.{is_white, is_gone, has_gone, settled_object, settled_slot, settled_page, pooled_pages, phase_with, minors_after, others_after, settled, HasNoGone}
-use Rattle.space_heap.proofs.Unswept.{member_range}
+use Rattle.space_heap.specs.Sweeping.{is_white, is_gone, has_gone, settled_object, pooled_pages, phase_with, minors_after, others_after, settled, HasNoGone}
+use Rattle.space_heap.proofs.fields.Unswept.{member_range}
+use Rattle.space_heap.proofs.MappedLaws.{pool_at-mapped, count-mapped, test-mapped, is_occupied-mapped, object_of-mapped, stays-mapped, resolved-mapped, is_moved-mapped}
 use Rattle.space_heap.proofs.ObjectLaws.{is_object_is}
 
 past_pool : (v : HeapView) (k : ℕ) → length v.pages ≤ k → is_some (pool_at v k) ≡ false
@@ -33,93 +33,47 @@ pooled_read v k =
     (cases_lt k (length v.pages))
 
 -- where none of the objects that stand is gone each of them can be named
-pub none_gone : (v : HeapView) (a : ℕ) → HasNoGone v → stands v a ≡ is_object v a
+pub none_gone : (v : HeapView) (a : ℕ) → HasNoGone v → is_occupied v a ≡ is_object v a
 none_gone v a none = ⊎_elim
     (λ e. e ∙ sym (is_object_is v a ∙ ap (λ b. b && not (object_of v a).gone) e ∙ ap not (none a e)))
     (λ e. e ∙ sym (is_object_is v a ∙ ap (λ b. b && not (object_of v a).gone) e))
-    (cases_Bool (stands v a))
+    (cases_Bool (is_occupied v a))
 
 module _ (v : HeapView) (kind : Kind) where
   abbrev w : HeapView
   w = settled v kind
 
-  page_at-settled : (page : ℕ) → page_at w page ≡ settled_page (page_at v page)
+  pages-settled : w.pages ≡ map (map_page settled_object) v.pages
   unfolding settled
-  page_at-settled page = get_or-map settled_page v.pages page no_page
-
-  slots-settled : (page : ℕ) → length (page_at w page).slots ≡ length (page_at v page).slots
-  slots-settled page = ap (λ (p : PageView). length p.slots) (page_at-settled page) ∙ length-map (page_at v page).slots settled_slot
+  pages-settled = refl
 
   pub pool_at-settled : (page : ℕ) → pool_at w page ≡ pool_at v page
-  pool_at-settled page = ap (λ (p : PageView). p.pool) (page_at-settled page)
+  pool_at-settled = pool_at-mapped settled_object v w pages-settled
 
   pub count-settled : length w.pages ≡ length v.pages
-  unfolding settled
-  count-settled = length-map v.pages settled_page
-
-  pub pool_with-settled : (a : ℕ) → pool_with w a ≡ pool_with v a
-  unfolding pool_with
-  pool_with-settled a = pool_at-settled (page_of a)
-
-  pub is_slot-settled : (a : ℕ) → is_slot w a ≡ is_slot v a
-  unfolding is_slot
-  is_slot-settled a =
-      ap (λ pool. is_start pool (length (page_with w a).slots) a) (pool_at-settled (page_of a))
-      ∙ ap (λ n. is_start (page_with v a).pool n a) (slots-settled (page_of a))
-
-  -- each slot as it is then
-  pub slot_at-settled : (a : ℕ) → slot_at w a ≡ settled_slot (slot_at v a)
-  unfolding slot_at
-  slot_at-settled a = ⊎_elim
-      (λ some.
-      cond-true (is_slot w a) _ Free (is_slot-settled a ∙ some)
-      ∙ ap (λ (p : PageView). get_or p.slots (slot_number p.pool a) Free) (page_at-settled (page_of a))
-      ∙ get_or-map settled_slot (page_with v a).slots (slot_number (page_with v a).pool a) Free
-      ∙ ap settled_slot (sym (cond-true (is_slot v a) _ Free some)))
-      (λ none.
-      cond-false (is_slot w a) _ Free (is_slot-settled a ∙ none)
-      ∙ ap settled_slot (sym (cond-false (is_slot v a) (get_or (page_with v a).slots (slot_number (page_with v a).pool a) Free) Free none)))
-      (cases_Bool (is_slot v a))
+  count-settled = count-mapped settled_object v w pages-settled
 
   -- what stands, stands
-  pub stands-settled : (a : ℕ) → stands w a ≡ stands v a
-  unfolding stands
-  stands-settled a = ap has_object (slot_at-settled a) ∙ has (slot_at v a)
-    where
-      has : (s : SlotView) → has_object (settled_slot s) ≡ has_object s
-      has Free = refl
-      has (Moved to) = refl
-      has (Object o) = refl
+  pub is_occupied-settled : (a : ℕ) → is_occupied w a ≡ is_occupied v a
+  is_occupied-settled = is_occupied-mapped settled_object v w pages-settled
 
   -- an object is as before, and gone where it is white
-  pub object_of-settled : (a : ℕ) → stands v a ≡ true → object_of w a ≡ settled_object (object_of v a)
-  unfolding stands object_of
-  object_of-settled a e = ap object_in (slot_at-settled a) ∙ object (slot_at v a) e
-    where
-      object : (s : SlotView) → has_object s ≡ true → object_in (settled_slot s) ≡ settled_object (object_in s)
-      object Free e = cc
-      object (Moved to) e = cc
-      object (Object o) e = refl
+  pub object_of-settled : (a : ℕ) → is_occupied v a ≡ true → object_of w a ≡ settled_object (object_of v a)
+  object_of-settled = object_of-mapped settled_object v w pages-settled
 
   -- a part of an object that isn't whether it is gone stays everywhere
   pub stays-settled : {X : Type 0} (f : ObjectView → X) (a : ℕ) → ((o : ObjectView) → f (settled_object o) ≡ f o) → f (object_of w a) ≡ f (object_of v a)
-  unfolding object_of
-  stays-settled f a same = ap (λ s. f (object_in s)) (slot_at-settled a) ∙ part (slot_at v a)
-    where
-      part : (s : SlotView) → f (object_in (settled_slot s)) ≡ f (object_in s)
-      part Free = refl
-      part (Moved to) = refl
-      part (Object o) = same o
+  stays-settled f a same = stays-mapped settled_object v w pages-settled f a same
 
   pub colour_of-settled : (a : ℕ) → colour_of w a ≡ colour_of v a
   colour_of-settled a = stays-settled (λ (o : ObjectView). o.colour) a (λ o. refl)
 
   -- an object can be named where it stands and isn't white
-  pub is_object-settled : (a : ℕ) → is_object w a ≡ (stands v a && not (is_white (colour_of v a)))
-  unfolding is_object stands object_of
-  is_object-settled a = ap has_present (slot_at-settled a) ∙ present (slot_at v a)
+  pub is_object-settled : (a : ℕ) → is_object w a ≡ (is_occupied v a && not (is_white (colour_of v a)))
+  unfolding is_object is_occupied object_of
+  is_object-settled a = test-mapped settled_object v w pages-settled has_present (λ s. has_object s && not (is_white (object_in s).colour)) a present
     where
-      present : (s : SlotView) → has_present (settled_slot s) ≡ (has_object s && not (is_white (object_in s).colour))
+      present : (s : SlotView) → has_present (map_slot settled_object s) ≡ (has_object s && not (is_white (object_in s).colour))
       present Free = refl
       present (Moved to) = refl
       present (Object o) = refl
@@ -129,23 +83,20 @@ module _ (v : HeapView) (kind : Kind) where
   is_object-settled_from a none = is_object-settled a ∙ ap (λ b. b && not (is_white (colour_of v a))) (none_gone v a none)
 
   -- a gone object is a white one
-  pub is_gone-settled : (a : ℕ) → is_gone w a ≡ (stands v a && is_white (colour_of v a))
-  unfolding stands object_of
-  is_gone-settled a = ap has_gone (slot_at-settled a) ∙ gone (slot_at v a)
+  pub is_gone-settled : (a : ℕ) → is_gone w a ≡ (is_occupied v a && is_white (colour_of v a))
+  unfolding is_occupied object_of
+  is_gone-settled a = test-mapped settled_object v w pages-settled has_gone (λ s. has_object s && is_white (object_in s).colour) a gone
     where
-      gone : (s : SlotView) → has_gone (settled_slot s) ≡ (has_object s && is_white (object_in s).colour)
+      gone : (s : SlotView) → has_gone (map_slot settled_object s) ≡ (has_object s && is_white (object_in s).colour)
       gone Free = refl
       gone (Moved to) = refl
       gone (Object o) = refl
 
   pub resolved-settled : (word : ℕ) → resolved w word ≡ resolved v word
-  unfolding resolved
-  resolved-settled word = ap (moved_in word) (slot_at-settled word) ∙ moved (slot_at v word)
-    where
-      moved : (s : SlotView) → moved_in word (settled_slot s) ≡ moved_in word s
-      moved Free = refl
-      moved (Moved to) = refl
-      moved (Object o) = refl
+  resolved-settled = resolved-mapped settled_object v w pages-settled
+
+  pub is_moved-settled : (a : ℕ) → is_moved w a ≡ is_moved v a
+  is_moved-settled = is_moved-mapped settled_object v w pages-settled
 
   -- the pages that have a pool wait for a sweep
   pub is_unswept-settled : (page : ℕ) → is_unswept w page ≡ is_some (pool_at v page)
@@ -159,7 +110,8 @@ module _ (v : HeapView) (kind : Kind) where
   -- so no address is free until there is a sweep
   pub is_free_at-settled : (pool a : ℕ) → is_free_at w pool a ≡ false
   unfolding is_free_at pool_with
-  is_free_at-settled pool a = none (is_slot w a) (pool_with w a) (is_free (slot_at w a)) (is_unswept w (page_of a)) (is_unswept-settled (page_of a) ∙ ap is_some (sym (pool_at-settled (page_of a))))
+  is_free_at-settled pool a = none (is_slot w a) (pool_with w a) (is_free (slot_at w a)) (is_unswept w (page_of a))
+      (is_unswept-settled (page_of a) ∙ ap is_some (sym (pool_at-settled (page_of a))))
     where
       none : (slot : Bool) (own : Option ℕ) (free unswept : Bool) → unswept ≡ is_some own → (slot && (is_pool own pool && (free && not unswept))) ≡ false
       none true None free unswept e = refl
@@ -191,7 +143,11 @@ module _ (v : HeapView) (kind : Kind) where
   unfolding settled
   phase-settled = refl
 
-  pub counters-settled : w.counters ≡ record v.counters { minor_verdicts = minors_after kind v.counters.minor_verdicts; other_verdicts = others_after kind v.counters.other_verdicts }
+  pub counters-settled : w.counters ≡ record v.counters {
+    minor_verdicts = minors_after kind v.counters.minor_verdicts;
+    other_verdicts =
+        others_after kind v.counters.other_verdicts;
+  }
   unfolding settled
   counters-settled = refl
 

@@ -5,14 +5,15 @@ use Rattle.std.proofs.lemmas.Bool.Decides.{nat_tests}
 use Rattle.space_model.specs.Layout.{page_of, page_slots, slot_address}
 use Rattle.space_heap.specs.HeapView.{bytes_of, slot_number, is_start}
 use Rattle.space_heap.specs.FreeSlots.{is_slot_in}
-use Rattle.space_heap.proofs.Starts.{start_parts, start_from, address_start, start_address}
+use Rattle.space_heap.proofs.starts.Starts.{start_parts, start_from, address_start, start_address}
 
 -- the address of a slot of a page of the pool is a start
 pub slot_in-address : (page pool slot : ℕ) → pool < 5 → slot < page_slots pool → is_slot_in (Some pool) pool (slot_address page pool slot) ≡ true
 slot_in-address page pool slot known low =
     let a : ℕ = slot_address page pool slot in
     let s = address_start pool page slot a known low refl in
-    let start : is_start (Some pool) (page_slots pool) a ≡ true = start_from (Some pool) (page_slots pool) a s.0 (let n = s.2 in omega arith) (ap (λ k. bytes_of (Some pool) * k) s.2 ∙ s.3) in
+    let start : is_start (Some pool) (page_slots pool) a ≡ true =
+    start_from (Some pool) (page_slots pool) a s.0 (let n = s.2 in omega arith) (ap (λ k. bytes_of (Some pool) * k) s.2 ∙ s.3) in
     and_from _ _ (grind (arith, nat_tests)) start
 
 -- what it tells that a slot of the pool starts at the address

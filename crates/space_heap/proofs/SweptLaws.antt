@@ -11,7 +11,7 @@ use Rattle.space_model.specs.Layout.{page_of}
 use Rattle.space_heap.specs.declared.colour.Colour.TheVariants.{White}
 use Rattle.space_heap.specs.Slots.{ObjectView, SlotView, Free, Moved, Object, no_object, has_object, has_present, has_moved, object_in, moved_in, is_free}
 use Rattle.space_heap.specs.HeapView.{PageView, HeapView, no_page, page_at, pool_at, slot_number, is_start, is_unswept, slot_at}
-use Rattle.space_heap.specs.Objects.{stands, is_object, object_of, resolved}
+use Rattle.space_heap.specs.Objects.{is_occupied, is_object, object_of, resolved}
 use Rattle.space_heap.specs.Marking.{colour_of, IsCoherent}
 use Rattle.space_heap.specs.Sweeping.{is_gone, has_gone, swept_slot, page_with_slots, swept_page, swept}
 use Rattle.space_heap.proofs.NewPageLaws.{slot_on, slot_at_on, both_free}
@@ -28,8 +28,8 @@ all_at (x ∷ xs) zero e = it x (and_parts _ _ e).0
 all_at (x ∷ xs) (suc i) e = all_at xs i (and_parts _ _ e).1
 
 -- the page with these slots, by its slots
-pub page_blank : (pool : Option ℕ) (slots : List SlotView) → list_all is_free slots ≡ true → page_with_slots pool slots ≡ no_page
-page_blank pool slots e = cond-true (list_all is_free slots) no_page (record { pool = pool; slots = slots }) e
+pub page_empty : (pool : Option ℕ) (slots : List SlotView) → list_all is_free slots ≡ true → page_with_slots pool slots ≡ no_page
+page_empty pool slots e = cond-true (list_all is_free slots) no_page (record { pool = pool; slots = slots }) e
 
 pub page_full : (pool : Option ℕ) (slots : List SlotView) → list_all is_free slots ≡ false → page_with_slots pool slots ≡ record { pool = pool; slots = slots }
 page_full pool slots e = cond-false (list_all is_free slots) no_page (record { pool = pool; slots = slots }) e
@@ -42,10 +42,10 @@ swept_on p a =
     let slots : List SlotView = map swept_slot p.slots in
     let read : get_or slots n Free ≡ swept_slot (get_or p.slots n Free) = get_or-map swept_slot p.slots n Free in
     ⊎_elim
-    (λ blank.
-    ap (λ q. slot_on q a) (page_blank p.pool slots blank)
+    (λ empty.
+    ap (λ q. slot_on q a) (page_empty p.pool slots empty)
     ∙ both_free (is_start None 0 a) Free refl
-    ∙ sym (free_in at (get_or p.slots n Free) (sym read ∙ all_at slots n blank)))
+    ∙ sym (free_in at (get_or p.slots n Free) (sym read ∙ all_at slots n empty)))
     (λ full.
     ap (λ q. slot_on q a) (page_full p.pool slots full)
     ∙ ap (λ k. cond (is_start p.pool k a) (get_or slots n Free) Free) (length-map p.slots swept_slot)
@@ -155,14 +155,14 @@ module _ (v : HeapView) (page : ℕ) where
       ∙ ap swept_slot (sym (slot_at_on v a))
 
   -- on the page stands what can be named
-  pub stands-swept_same : (a : ℕ) → page_of a ≡ page → stands w a ≡ is_object v a
-  unfolding stands is_object
-  stands-swept_same a same = ap has_object (slot_at-swept_same a same) ∙ has_swept (slot_at v a)
+  pub is_occupied-swept_same : (a : ℕ) → page_of a ≡ page → is_occupied w a ≡ is_object v a
+  unfolding is_occupied is_object
+  is_occupied-swept_same a same = ap has_object (slot_at-swept_same a same) ∙ has_swept (slot_at v a)
 
   -- and on the others what stood
-  pub stands-swept_other : (a : ℕ) → page_of a ≢ page → stands w a ≡ stands v a
-  unfolding stands
-  stands-swept_other a differ = ap has_object (slot_at-swept_other a differ)
+  pub is_occupied-swept_other : (a : ℕ) → page_of a ≢ page → is_occupied w a ≡ is_occupied v a
+  unfolding is_occupied
+  is_occupied-swept_other a differ = ap has_object (slot_at-swept_other a differ)
 
   -- the same objects can be named
   pub is_object-swept : (a : ℕ) → is_object w a ≡ is_object v a
@@ -191,11 +191,11 @@ module _ (v : HeapView) (page : ℕ) where
 
   -- no gone object is left on the page, and those of the others stay
   pub is_gone-swept_same : (a : ℕ) → page_of a ≡ page → is_gone w a ≡ false
-  unfolding stands object_of
+  unfolding is_occupied object_of
   is_gone-swept_same a same = ap has_gone (slot_at-swept_same a same) ∙ gone_swept (slot_at v a)
 
   pub is_gone-swept_other : (a : ℕ) → page_of a ≢ page → is_gone w a ≡ is_gone v a
-  unfolding stands object_of
+  unfolding is_occupied object_of
   is_gone-swept_other a differ = ap has_gone (slot_at-swept_other a differ)
 
   pub resolved-swept : (word : ℕ) → resolved w word ≡ resolved v word
@@ -210,7 +210,8 @@ module _ (v : HeapView) (page : ℕ) where
 
   -- the page keeps its pool or is spare
   pub pool_at-swept_same : pool_at w page ≡ cond (list_all is_free (map swept_slot (page_at v page).slots)) None (pool_at v page)
-  pool_at-swept_same = ap (λ (p : PageView). p.pool) page_at-swept_same ∙ pool_of (list_all is_free (map swept_slot (page_at v page).slots)) (map swept_slot (page_at v page).slots)
+  pool_at-swept_same = ap (λ (p : PageView). p.pool) page_at-swept_same
+      ∙ pool_of (list_all is_free (map swept_slot (page_at v page).slots)) (map swept_slot (page_at v page).slots)
     where
       pool_of : (b : Bool) (slots : List SlotView) → (cond b no_page (record { pool = pool_at v page; slots = slots })).pool ≡ cond b None (pool_at v page)
       pool_of true slots = refl

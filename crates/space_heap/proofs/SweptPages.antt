@@ -9,12 +9,12 @@ use Rattle.std.proofs.lemmas.List.Folds.{list_all_at}
 use Rattle.space_model.specs.Layout.{page_of, page_slots, slot_address, slot_bytes}
 use Rattle.space_heap.specs.Slots.{SlotView, Free, Moved, Object, has_present, has_moved, is_free}
 use Rattle.space_heap.specs.HeapView.{PageView, HeapView, no_page, page_at, pool_at, page_with, slot_number, is_start, is_slot, is_unswept, slot_at}
-use Rattle.space_heap.specs.Objects.{stands, is_object, is_moved, HasNoMoved}
+use Rattle.space_heap.specs.Objects.{is_occupied, is_object, is_moved, HasNoMoved}
 use Rattle.space_heap.specs.SoundHeap.{IsSoundHeap}
 use Rattle.space_heap.specs.Sweeping.{is_gone, swept_slot, swept}
-use Rattle.space_heap.proofs.Starts.{address_start, start_from}
+use Rattle.space_heap.proofs.starts.Starts.{address_start, start_from}
 use Rattle.space_heap.proofs.Laws.{slot_at_some, start_of, page_in_heap}
-use Rattle.space_heap.proofs.ObjectLaws.{slot_from_stands, stands_from_object}
+use Rattle.space_heap.proofs.ObjectLaws.{slot_from_occupied, occupied_from_object}
 use Rattle.space_heap.proofs.SweptLaws.{pool_at-swept_same, unswept-swept, object_swept}
 
 -- a list whose slots are all free
@@ -32,10 +32,10 @@ free_swept (Object o) e f = ap is_free (cond-true o.gone Free (Object o) (true_o
     true_of true e = refl
     true_of false e = sym e
 
-taken_swept : (s : SlotView) → has_present s ≡ true → is_free (swept_slot s) ≡ false
-taken_swept Free e = cc
-taken_swept (Moved to) e = refl
-taken_swept (Object o) e = ap is_free (object_swept (Object o) e)
+used_swept : (s : SlotView) → has_present s ≡ true → is_free (swept_slot s) ≡ false
+used_swept Free e = cc
+used_swept (Moved to) e = refl
+used_swept (Object o) e = ap is_free (object_swept (Object o) e)
 
 -- numbers above one are kept where that one is left out
 keep_above : (test : ℕ → Bool) (b a n : ℕ) → b < a → filter (λ k. not (nat_eq k b)) (filter test (range_with_len a n)) ≡ filter test (range_with_len a n)
@@ -45,13 +45,16 @@ keep_above test b a (suc n) above =
     let apart : nat_eq a b ≡ false = grind (arith, nat_tests) in
     ⊎_elim
     (λ e.
-    let here : filter test (range_with_len a (suc n)) ≡ a ∷ filter test (range_with_len (a + 1) n) = cond-true (test a) (a ∷ filter test (range_with_len (a + 1) n)) (filter test (range_with_len (a + 1) n)) e in
+    let here : filter test (range_with_len a (suc n)) ≡ a ∷ filter test (range_with_len (a + 1) n) =
+    cond-true (test a) (a ∷ filter test (range_with_len (a + 1) n)) (filter test (range_with_len (a + 1) n)) e in
     ap (filter (λ k. not (nat_eq k b))) here
-    ∙ cond-true (not (nat_eq a b)) (a ∷ filter (λ k. not (nat_eq k b)) (filter test (range_with_len (a + 1) n))) (filter (λ k. not (nat_eq k b)) (filter test (range_with_len (a + 1) n))) (ap not apart)
+    ∙ cond-true (not (nat_eq a b)) (a ∷ filter (λ k. not (nat_eq k b)) (filter test (range_with_len (a + 1) n)))
+    (filter (λ k. not (nat_eq k b)) (filter test (range_with_len (a + 1) n))) (ap not apart)
     ∙ ap (λ xs. a ∷ xs) rest
     ∙ sym here)
     (λ e.
-    let here : filter test (range_with_len a (suc n)) ≡ filter test (range_with_len (a + 1) n) = cond-false (test a) (a ∷ filter test (range_with_len (a + 1) n)) (filter test (range_with_len (a + 1) n)) e in
+    let here : filter test (range_with_len a (suc n)) ≡ filter test (range_with_len (a + 1) n) =
+    cond-false (test a) (a ∷ filter test (range_with_len (a + 1) n)) (filter test (range_with_len (a + 1) n)) e in
     ap (filter (λ k. not (nat_eq k b))) here ∙ rest ∙ sym here)
     (cases_Bool (test a))
 
@@ -69,36 +72,37 @@ others_left test a (suc n) x xs e = ⊎_elim
     ∙ ap (filter (λ k. not (nat_eq k x))) (sym rest)
     ∙ keep_above test x (a + 1) n (omega arith)
     ∙ rest)
-    (λ f. others_left test (a + 1) n x xs (sym (cond-false (test a) (a ∷ filter test (range_with_len (a + 1) n)) (filter test (range_with_len (a + 1) n)) f) ∙ e))
+    (λ f. others_left test (a + 1) n x xs (sym (cond-false (test a) (a ∷ filter test (range_with_len (a + 1) n)) (filter test (range_with_len (a + 1) n)) f)
+    ∙ e))
     (cases_Bool (test a))
 
 -- a page that has no pool, as one that a pool gets, doesn't wait for a sweep
-pub swept_blank : (v : HeapView) (page : ℕ) → IsSoundHeap v → page_at v page ≡ no_page → is_unswept v page ≡ false
-swept_blank v page sound blank = ⊎_elim
-    (λ e. absurd (true≢false (sym (sound.have_pools page e) ∙ ap (λ (p : PageView). is_some p.pool) blank)))
+pub swept_empty : (v : HeapView) (page : ℕ) → IsSoundHeap v → page_at v page ≡ no_page → is_unswept v page ≡ false
+swept_empty v page sound empty = ⊎_elim
+    (λ e. absurd (true≢false (sym (sound.have_pools page e) ∙ ap (λ (p : PageView). is_some p.pool) empty)))
     (λ e. e)
     (cases_Bool (is_unswept v page))
 
 -- a gone object stands
-pub stands_from_gone : (v : HeapView) (a : ℕ) → is_gone v a ≡ true → stands v a ≡ true
-stands_from_gone v a e = (and_parts _ _ e).0
+pub occupied_from_gone : (v : HeapView) (a : ℕ) → is_gone v a ≡ true → is_occupied v a ≡ true
+occupied_from_gone v a e = (and_parts _ _ e).0
 
 -- an object stands on a page with a pool
-pub stands_pooled : (v : HeapView) (a : ℕ) → IsSoundHeap v → stands v a ≡ true → is_some (pool_at v (page_of a)) ≡ true
-stands_pooled v a sound e = by_pool (pool_at v (page_of a)) refl
+pub occupied_pooled : (v : HeapView) (a : ℕ) → IsSoundHeap v → is_occupied v a ≡ true → is_some (pool_at v (page_of a)) ≡ true
+occupied_pooled v a sound e = by_pool (pool_at v (page_of a)) refl
   where
     by_pool : (own : Option ℕ) → pool_at v (page_of a) ≡ own → is_some own ≡ true
     by_pool None none =
-        let within = (start_of v a (slot_from_stands v a e)).within in
+        let within = (start_of v a (slot_from_occupied v a e)).within in
         let long = sound.spare (page_of a) none in
         absurd (omega arith)
     by_pool (Some pool) its = refl
 
 -- addresses of objects are small
-pub standing_below : (v : HeapView) (a : ℕ) → IsSoundHeap v → stands v a ≡ true → a < 2 ^ 29
+pub standing_below : (v : HeapView) (a : ℕ) → IsSoundHeap v → is_occupied v a ≡ true → a < 2 ^ 29
 unfolding page_of
 standing_below v a sound e =
-    let page = page_in_heap v a (slot_from_stands v a e) in
+    let page = page_in_heap v a (slot_from_occupied v a e) in
     let limited = sound.limited in
     let most = sound.most in
     grind arith
@@ -108,7 +112,8 @@ module _ (v : HeapView) (page : ℕ) where
   slots = (page_at v page).slots
 
   -- the slot of a page by its address
-  pub slot_by_address : IsSoundHeap v → (pool slot : ℕ) → pool_at v page ≡ Some pool → slot < length slots → slot_at v (slot_address page pool slot) ≡ get_or slots slot Free
+  pub slot_by_address : IsSoundHeap v → (pool slot : ℕ) → pool_at v page ≡ Some pool → slot < length slots
+      → slot_at v (slot_address page pool slot) ≡ get_or slots slot Free
   unfolding is_slot
   slot_by_address sound pool slot its within =
       let a : ℕ = slot_address page pool slot in
@@ -128,13 +133,15 @@ module _ (v : HeapView) (page : ℕ) where
   pub pool_at-swept_kept : (a : ℕ) → page_of a ≡ page → is_object v a ≡ true → pool_at (swept v page) page ≡ pool_at v page
   unfolding is_object
   pool_at-swept_kept a on is =
-      let at : is_slot v a ≡ true = slot_from_stands v a (stands_from_object v a is) in
+      let at : is_slot v a ≡ true = slot_from_occupied v a (occupied_from_object v a is) in
       let n : ℕ = slot_number (page_with v a).pool a in
       let within : n < length (page_with v a).slots = (start_of v a at).within in
       let xs : List SlotView = map swept_slot (page_with v a).slots in
-      let its : is_free (get_or xs n Free) ≡ false = ap is_free (get_or-map swept_slot (page_with v a).slots n Free) ∙ taken_swept (get_or (page_with v a).slots n Free) (ap has_present (sym (slot_at_some v a at)) ∙ is) in
+      let its : is_free (get_or xs n Free) ≡ false = ap is_free (get_or-map swept_slot (page_with v a).slots n Free)
+      ∙ used_swept (get_or (page_with v a).slots n Free) (ap has_present (sym (slot_at_some v a at)) ∙ is) in
       let some : list_all is_free xs ≡ false = list_all_at is_free xs n Free (let l = length-map (page_with v a).slots swept_slot in omega arith) its in
-      pool_at-swept_same v page ∙ cond-false (list_all is_free (map swept_slot slots)) None (pool_at v page) (ap (λ k. list_all is_free (map swept_slot (page_at v k).slots)) (sym on) ∙ some)
+      pool_at-swept_same v page ∙ cond-false (list_all is_free (map swept_slot slots)) None (pool_at v page)
+      (ap (λ k. list_all is_free (map swept_slot (page_at v k).slots)) (sym on) ∙ some)
 
   -- and a page on which none can be named, and none was moved away, is spare
   pub pool_at-swept_spare : IsSoundHeap v → HasNoMoved v → ((a : ℕ) → page_of a ≡ page → is_object v a ≡ false) → pool_at (swept v page) page ≡ None
@@ -147,7 +154,8 @@ module _ (v : HeapView) (page : ℕ) where
       let a : ℕ = slot_address page pool i in
       let on : page_of a ≡ page = (address_start pool page i a (sound.known page pool its) few refl).1 in
       let read = slot_by_address sound pool i its within in
-      ap is_free (get_or-map swept_slot slots i Free) ∙ free_swept (get_or slots i Free) (ap has_present (sym read) ∙ none a on) (ap has_moved (sym read) ∙ still a) in
+      ap is_free (get_or-map swept_slot slots i Free)
+      ∙ free_swept (get_or slots i Free) (ap has_present (sym read) ∙ none a on) (ap has_moved (sym read) ∙ still a) in
       pool_at-swept_same v page ∙ by_pool (pool_at v page) (list_all is_free xs) (λ pool its. all_free xs (each pool its))
     where
       by_pool : (own : Option ℕ) (b : Bool) → ((pool : ℕ) → own ≡ Some pool → b ≡ true) → cond b None own ≡ None
@@ -157,4 +165,5 @@ module _ (v : HeapView) (page : ℕ) where
 
   -- the pages that wait after the sweep of the first of them
   pub unswept-swept_first : IsSoundHeap v → (others : List ℕ) → v.unswept ≡ page ∷ others → (swept v page).unswept ≡ others
-  unswept-swept_first sound others e = unswept-swept v page ∙ ap (filter (λ other. not (nat_eq other page))) e ∙ others_left (is_unswept v) 0 (length v.pages) page others (sym sound.waiting ∙ e)
+  unswept-swept_first sound others e = unswept-swept v page ∙ ap (filter (λ other. not (nat_eq other page))) e
+      ∙ others_left (is_unswept v) 0 (length v.pages) page others (sym sound.waiting ∙ e)

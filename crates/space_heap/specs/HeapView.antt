@@ -1,19 +1,19 @@
 -- What a contract sees of the heap: pages of slots, the grey objects, the phase and the counters.
-use Rattle.std.specs.Prelude.{ℕ, ◌*◌, ◌/◌, ◌%◌, Bool, nat_eq, nat_le, nat_lt, ◌==◌, ◌&&◌, List, [], ◌∷◌, ◌++◌, length, replicate, Option, None, Some, slice_index_or, slice_set, if◌then◌else◌}
+use Rattle.std.specs.Prelude.{ℕ, ◌*◌, ◌/◌, ◌%◌, Bool, nat_eq, nat_le, nat_lt, ◌==◌, ◌&&◌, List, [], ◌∷◌, ◌++◌, length, map, replicate, Option, None, Some, slice_index_or, slice_set, if◌then◌else◌}
 use Rattle.std.specs.Set.{is_member}
 use Rattle.space_model.specs.declared.phase.Phase.{Phase}
 use Rattle.space_model.specs.declared.phase.Phase.TheVariants.{Idle}
 use Rattle.space_model.specs.Layout.{slot_bytes, page_slots, page_of}
-use Rattle.space_heap.specs.Slots.{SlotView, Free}
+use Rattle.space_heap.specs.Slots.{ObjectView, SlotView, Free, map_slot}
 
 -- a page: its pool, which a spare page has none of, and its slots
 pub record PageView : Type 0 where
   pub pool : Option ℕ
   pub slots : List SlotView
 
--- how many births, minor verdicts, major and full verdicts, freed slots, compactions and moves there were
+-- how many allocations, minor verdicts, major and full verdicts, freed slots, compactions and moves there were
 pub record Counters : Type 0 where
-  -- how many objects were ever born, which is the last name too
+  -- how many objects were ever allocated, which is the last name too
   pub born : ℕ
   pub minor_verdicts : ℕ
   pub other_verdicts : ℕ
@@ -99,6 +99,10 @@ with_slot v a s =
     if is_slot v a
     then record v { pages = slice_set v.pages (page_of a) (with_slot_in (page_with v a) (slot_number (page_with v a).pool a) s) }
     else v
+
+-- the page after each of its objects became what this gives of it
+abbrev pub map_page : (ObjectView → ObjectView) → PageView → PageView
+map_page f p = record p { slots = map (map_slot f) p.slots }
 
 -- a page of the pool whose slots are all free
 abbrev pub free_page : ℕ → PageView

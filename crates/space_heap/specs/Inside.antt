@@ -8,9 +8,9 @@ use Rattle.space_pools.specs.PoolsView.{PoolsView, page_at, unswept_at}
 use Rattle.space_heap.specs.declared.marks.Marks.{Marks}
 use Rattle.space_heap.specs.declared.heap.Heap.TheInside.{Inside}
 use Rattle.space_heap.specs.Slots.{SlotView}
-use Rattle.space_heap.specs.ObjectWords.{AreObjectWords}
+use Rattle.space_heap.specs.words.ObjectWords.{AreObjectWords}
 use Rattle.space_heap.specs.HeapView.{PageView, Counters, HeapView, no_counters}
-use Rattle.space_heap.specs.MarkPlanes.{marks_at, AreWide, slot_from}
+use Rattle.space_heap.specs.planes.MarkPlanes.{marks_at, AreWide, slot_from}
 use Rattle.space_heap.specs.Marking.{IsCoherent}
 
 -- a slot of a page, by the words of the page and its planes
@@ -42,7 +42,13 @@ pub record Rest : Type 0 where
 
 -- what the fields of a heap tell besides its pools and its planes
 abbrev pub rest_of : Inside → Rest
-rest_of h = record { grey = h.grey.items; phase = h.phase; cursor = 0; counters = record no_counters { born = h.born; minor_verdicts = h.minor_verdicts; other_verdicts = h.other_verdicts; freed = h.freed } }
+rest_of h = record {
+  grey = h.grey.items;
+  phase = h.phase;
+  cursor = 0;
+  counters =
+      record no_counters { born = h.born; minor_verdicts = h.minor_verdicts; other_verdicts = h.other_verdicts; freed = h.freed };
+}
 
 -- the view of these pools and planes, with this rest
 abbrev pub view_with : PoolsView → List Marks → Rest → HeapView
@@ -65,7 +71,7 @@ pub record FitsSlot (found : Option (List ℕ)) (m : Marks) (s : ℕ) : Type 0 w
   pub object : bit m.object s ≡ (is_some found && not (bit m.moved s))
   pub moved : bit m.moved s ≡ true → is_some found ≡ true
   pub words : (words : List ℕ) → found ≡ Some words → bit m.moved s ≡ false → AreObjectWords words
-  pub dead : bit m.dead s ≡ true → bit m.object s ≡ true
+  pub gone : bit m.gone s ≡ true → bit m.object s ≡ true
 
 -- the planes have one bit for each slot of the page, and fit what is found in each
 pub record AreMarksOf (p : PageSlots) (m : Marks) : Type 0 where
@@ -81,6 +87,6 @@ pub record AreAllMarks (v : PoolsView) (marks : List Marks) : Type 0 where
 pub record IsHeap (h : Inside) : Type 0 where
   pub marks : AreAllMarks h.pools h.marks.items
   pub room : h.pools.limit ≤ vec_capacity h.marks
-  -- each slot has its place on the mark stack
+  -- there is room for each slot on the mark stack
   pub places : 1638 * length h.pools.pages ≤ vec_capacity h.grey
   pub coherent : IsCoherent (view_from h)

@@ -28,5 +28,5 @@ abbrev pub IsNextPage : HeapView → ℕ → Type 0
 IsNextPage v page = IsLeastSpare v page ⊎ (HasNoSpare v × (page ≡ length v.pages) × (page < v.limit))
 
 -- no page is spare, and there are as many as the limit allows
-abbrev pub IsAtLimit : HeapView → Type 0
-IsAtLimit v = HasNoSpare v × (length v.pages ≡ v.limit)
+abbrev pub IsOutOfPages : HeapView → Type 0
+IsOutOfPages v = HasNoSpare v × (length v.pages ≡ v.limit)

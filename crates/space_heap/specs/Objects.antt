@@ -4,8 +4,8 @@ use Rattle.space_heap.specs.Slots.{ObjectView, Object, has_object, has_present, 
 use Rattle.space_heap.specs.HeapView.{HeapView, slot_at, with_slot}
 
 -- whether an object stands at the address, gone or not
-unfoldable pub stands : HeapView → ℕ → Bool
-stands v a = has_object (slot_at v a)
+unfoldable pub is_occupied : HeapView → ℕ → Bool
+is_occupied v a = has_object (slot_at v a)
 
 -- whether the word names an object: one that isn't gone stands there
 unfoldable pub is_object : HeapView → ℕ → Bool
@@ -29,9 +29,9 @@ HasNoMoved v = (a : ℕ) → is_moved v a ≡ false
 
 -- the heap after the object at the address became this one; nothing changes where there is no object
 unfoldable pub with_object : HeapView → ℕ → ObjectView → HeapView
-with_object v a o = if stands v a then with_slot v a (Object o) else v
+with_object v a o = if is_occupied v a then with_slot v a (Object o) else v
 
--- the heap after this object was born at the address
+-- the heap after this object was allocated at the address
 unfoldable pub placed : HeapView → ℕ → ObjectView → HeapView
 placed v a o = let w : HeapView = with_slot v a (Object o) in record w { counters = record w.counters { born = w.counters.born + 1 } }
 

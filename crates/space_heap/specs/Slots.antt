@@ -80,3 +80,9 @@ abbrev pub has_moved : SlotView → Bool
 has_moved Free = false
 has_moved (Moved to) = true
 has_moved (Object o) = false
+
+-- the slot after its object, if it has one, became what this gives of it
+abbrev pub map_slot : (ObjectView → ObjectView) → SlotView → SlotView
+map_slot f Free = Free
+map_slot f (Moved to) = Moved to
+map_slot f (Object o) = Object (f o)

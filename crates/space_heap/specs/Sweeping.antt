@@ -6,31 +6,14 @@ use Rattle.space_model.specs.declared.event.Kind.TheVariants.{Minor, Major, Full
 use Rattle.space_model.specs.Layout.{page_of}
 use Rattle.space_model.specs.declared.phase.Phase.{Phase}
 use Rattle.space_model.specs.declared.phase.Phase.TheVariants.{Idle, Sweeping}
-use Rattle.space_heap.specs.declared.colour.Colour.{Colour}
-use Rattle.space_heap.specs.declared.colour.Colour.TheVariants.{White, Grey, Black}
 use Rattle.space_heap.specs.Slots.{ObjectView, SlotView, Free, Moved, Object, has_object, object_in, is_free}
-use Rattle.space_heap.specs.HeapView.{PageView, HeapView, no_page, page_at, pool_at}
-use Rattle.space_heap.specs.Objects.{stands, object_of}
-
--- whether it is the colour of what isn't marked
-abbrev pub is_white : Colour → Bool
-is_white White = true
-is_white Grey = false
-is_white Black = false
+use Rattle.space_heap.specs.HeapView.{PageView, HeapView, no_page, page_at, pool_at, map_page}
+use Rattle.space_heap.specs.Objects.{is_occupied, object_of}
+pub use Rattle.space_heap.specs.Marking.{is_white}
 
 -- the object after a verdict: it is gone where it is white
 abbrev pub settled_object : ObjectView → ObjectView
 settled_object o = record o { gone = is_white o.colour }
-
--- the slot after a verdict
-abbrev pub settled_slot : SlotView → SlotView
-settled_slot Free = Free
-settled_slot (Moved to) = Moved to
-settled_slot (Object o) = Object (settled_object o)
-
--- the page after a verdict
-abbrev pub settled_page : PageView → PageView
-settled_page p = record p { slots = map settled_slot p.slots }
 
 -- the pages with a pool, ascending
 abbrev pub pooled_pages : HeapView → List ℕ
@@ -56,7 +39,7 @@ others_after Full n = n + 1
 -- the heap after a verdict: each white object is gone, each page with a pool waits for a sweep, and the verdict is counted
 unfoldable pub settled : HeapView → Kind → HeapView
 settled v kind = record v {
-  pages = map settled_page v.pages;
+  pages = map (map_page settled_object) v.pages;
   unswept = pooled_pages v;
   phase = phase_with (pooled_pages v);
   counters = record v.counters { minor_verdicts = minors_after kind v.counters.minor_verdicts; other_verdicts = others_after kind v.counters.other_verdicts };
@@ -64,11 +47,15 @@ settled v kind = record v {
 
 -- no object that stands is gone
 abbrev pub HasNoGone : HeapView → Type 0
-HasNoGone v = (a : ℕ) → stands v a ≡ true → (object_of v a).gone ≡ false
+HasNoGone v = (a : ℕ) → is_occupied v a ≡ true → (object_of v a).gone ≡ false
 
 -- whether a gone object stands at the address
 abbrev pub is_gone : HeapView → ℕ → Bool
-is_gone v a = stands v a && (object_of v a).gone
+is_gone v a = is_occupied v a && (object_of v a).gone
+
+-- a gone object stands at the address
+abbrev pub IsGone : HeapView → ℕ → Type 0
+IsGone v a = is_gone v a ≡ true
 
 -- a gone object stands at the address, on the page
 abbrev pub IsGoneOn : HeapView → ℕ → ℕ → Type 0

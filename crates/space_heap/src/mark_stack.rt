@@ -4,8 +4,8 @@ ghost use Rattle.std.specs.Prelude.{◌≡◌, ◌<◌, ◌≤◌, ◌*◌, [], 
 use space_planes::MOST_BITS;
 use std::alloc::AllocError as NoMemory;
 
-// Makes sure that each slot of so many pages has a place.
-pub fn reserve_places(grey: &mut Vec<u64>, pages: usize) -> Result<(), NoMemory>
+// Makes sure that there is room for each slot of so many pages.
+pub fn reserve_room(grey: &mut Vec<u64>, pages: usize) -> Result<(), NoMemory>
     requires { pages ≤ 4096 }
     ensures items { grey.new.items ≡ grey.old.items }
     ensures places { OnOk result (1638 * pages ≤ vec_capacity grey.new) }
@@ -15,13 +15,11 @@ pub fn reserve_places(grey: &mut Vec<u64>, pages: usize) -> Result<(), NoMemory>
     grey.reserve(wanted.saturating_sub(grey.len()))
 }
 
-// Puts an address on top, in a place that is there.
+// Puts an address on top, in room that is there.
 pub fn push_grey(grey: &mut Vec<u64>, address: u64)
     requires { vec_len grey.old < vec_capacity grey.old }
     ensures items { grey.new.items ≡ grey.old.items ++ address ∷ [] }
     ensures room { vec_capacity grey.old ≤ vec_capacity grey.new }
 {
-    if grey.push(address).is_err() {
-        unreachable!();
-    }
+    grey.push_reserved(address);
 }

@@ -1,8 +1,9 @@
 // The planes of one page, which tell all of its slots but their words.
 ghost use Rattle.std.specs.Prelude.{◌≡◌, ◌<◌, ◌≤◌, ℕ, true, false, [], ◌∷◌, ◌++◌, not, ◌&&◌, length, map, slice_set, vec_capacity, IfOk, MatchOption};
 ghost use Rattle.space_planes.specs.Planes.{bit};
-ghost use Rattle.space_heap.specs.MarkPlanes.{clear_marks, AreWide, born_marks, traits_from, marks_at, guard_from, is_unprotected, colour_from, age_from, IsAbsentFrom, IsFirstPresent};
-ghost use Rattle.space_heap.specs.PaintedMarks.{painted_marks, unmarked_marks};
+ghost use Rattle.space_heap.specs.planes.MarkPlanes.{clear_marks, AreWide, new_marks, traits_from, marks_at, guard_from, is_unprotected, colour_from, age_from, is_present};
+ghost use Rattle.space_heap.specs.Walks.{HasNoneFrom, IsNext, is_sought_in};
+ghost use Rattle.space_heap.specs.planes.RecolouredMarks.{is_marked as is_marked_colour, is_black as is_black_colour, recoloured_marks, unmarked_marks};
 
 use crate::colour::Colour;
 use space_model::Guard;
@@ -22,7 +23,7 @@ pub struct Marks {
     pub remembered: Plane,
     pub kept: Plane,
     pub pinned: Plane,
-    pub dead: Plane,
+    pub gone: Plane,
 }
 
 // What the planes tell of one object.
@@ -35,6 +36,13 @@ pub struct Traits {
     pub kept: bool,
     pub pinned: bool,
     pub gone: bool,
+}
+
+// What a walk over slots seeks: objects that aren't gone, or those that are.
+#[derive(Clone, Copy)]
+pub enum Sought {
+    Present,
+    Gone,
 }
 
 // The guard by its bit.
@@ -80,12 +88,32 @@ fn write_guard(plane: &mut Plane, s: u32, guard: Guard)
     }
 }
 
-// Writes the bit of the colour of a marked object.
-fn write_black(plane: &mut Plane, s: u32, black: bool)
-    requires { s < length plane.old }
-    ensures { plane.new ≡ slice_set plane.old s black }
+// Whether an object of this colour is marked.
+fn is_marked(colour: Colour) -> bool
+    ensures { result ≡ is_marked_colour colour }
 {
-    if black {
+    match colour {
+        Colour::White => false,
+        Colour::Grey | Colour::Black => true,
+    }
+}
+
+// Whether the fields of an object of this colour were read.
+fn is_black(colour: Colour) -> bool
+    ensures { result ≡ is_black_colour colour }
+{
+    match colour {
+        Colour::White | Colour::Grey => false,
+        Colour::Black => true,
+    }
+}
+
+// Writes a bit.
+fn write_bit(plane: &mut Plane, s: u32, bit: bool)
+    requires { s < length plane.old }
+    ensures { plane.new ≡ slice_set plane.old s bit }
+{
+    if bit {
         plane.set(s);
     } else {
         plane.clear(s);
@@ -105,21 +133,21 @@ pub fn begin_slot(marks: &mut Vec<Marks>, page: u32, slot: u32, guard: Guard)
     requires there { page < length marks.old.items }
     requires wide { AreWide (marks_at marks.old.items page) (length (marks_at marks.old.items page).object) }
     requires within { slot < length (marks_at marks.old.items page).object }
-    ensures items { marks.new.items ≡ slice_set marks.old.items page (born_marks (marks_at marks.old.items page) slot guard) }
+    ensures items { marks.new.items ≡ slice_set marks.old.items page (new_marks (marks_at marks.old.items page) slot guard) }
     ensures room { vec_capacity marks.new ≡ vec_capacity marks.old }
 {
     marks[page as usize].begin(slot, guard);
 }
 
-// Makes the object of a slot of a page grey, or black.
-pub fn paint_slot(marks: &mut Vec<Marks>, page: u32, slot: u32, black: bool)
+// Gives the object of a slot of a page a colour.
+pub fn recolour_slot(marks: &mut Vec<Marks>, page: u32, slot: u32, colour: Colour)
     requires there { page < length marks.old.items }
     requires wide { AreWide (marks_at marks.old.items page) (length (marks_at marks.old.items page).object) }
     requires within { slot < length (marks_at marks.old.items page).object }
-    ensures items { marks.new.items ≡ slice_set marks.old.items page (painted_marks (marks_at marks.old.items page) slot black) }
+    ensures items { marks.new.items ≡ slice_set marks.old.items page (recoloured_marks (marks_at marks.old.items page) slot colour) }
     ensures room { vec_capacity marks.new ≡ vec_capacity marks.old }
 {
-    marks[page as usize].paint(slot, black);
+    marks[page as usize].recolour(slot, colour);
 }
 
 // Takes all marks of a marking away.
@@ -148,9 +176,7 @@ pub fn append_page(marks: &mut Vec<Marks>, made: Marks)
     ensures items { marks.new.items ≡ marks.old.items ++ made ∷ [] }
     ensures room { vec_capacity marks.old ≤ vec_capacity marks.new }
 {
-    if marks.push(made).is_err() {
-        unreachable!();
-    }
+    marks.push_reserved(made);
 }
 
 impl Marks {
@@ -170,7 +196,7 @@ impl Marks {
             remembered: Plane::new(alloc, slots)?,
             kept: Plane::new(alloc, slots)?,
             pinned: Plane::new(alloc, slots)?,
-            dead: Plane::new(alloc, slots)?,
+            gone: Plane::new(alloc, slots)?,
         })
     }
 
@@ -189,14 +215,14 @@ impl Marks {
         self.remembered.reset(slots);
         self.kept.reset(slots);
         self.pinned.reset(slots);
-        self.dead.reset(slots);
+        self.gone.reset(slots);
     }
 
     // Marks the slot as that of a new object: every mark that an earlier one left is cleared.
     pub fn begin(&mut self, s: u32, guard: Guard)
         requires wide { AreWide self.old (length self.old.object) }
         requires within { s < length self.old.object }
-        ensures { self.new ≡ born_marks self.old s guard }
+        ensures { self.new ≡ new_marks self.old s guard }
     {
         self.object.set(s);
         self.moved.clear(s);
@@ -208,17 +234,17 @@ impl Marks {
         self.remembered.clear(s);
         self.kept.clear(s);
         self.pinned.clear(s);
-        self.dead.clear(s);
+        self.gone.clear(s);
     }
 
-    // Makes the object of the slot grey, or black.
-    pub fn paint(&mut self, s: u32, black: bool)
+    // Gives the object of the slot a colour.
+    pub fn recolour(&mut self, s: u32, colour: Colour)
         requires wide { AreWide self.old (length self.old.object) }
         requires within { s < length self.old.object }
-        ensures { self.new ≡ painted_marks self.old s black }
+        ensures { self.new ≡ recoloured_marks self.old s colour }
     {
-        self.marked.set(s);
-        write_black(&mut self.black, s, black);
+        write_bit(&mut self.marked, s, is_marked(colour));
+        write_bit(&mut self.black, s, is_black(colour));
     }
 
     // Makes every object white, and neither remembered nor kept.
@@ -235,9 +261,18 @@ impl Marks {
     pub fn is_present(&self, s: u32) -> bool
         requires wide { AreWide self.now (length self.now.object) }
         requires within { s < length self.now.object }
-        ensures { result ≡ (bit self.now.object s && not (bit self.now.dead s)) }
+        ensures { result ≡ (bit self.now.object s && not (bit self.now.gone s)) }
     {
-        self.object.get(s) && !self.dead.get(s)
+        self.object.get(s) && !self.gone.get(s)
+    }
+
+    // Whether the slot holds a white object that isn't gone.
+    pub fn is_white(&self, s: u32) -> bool
+        requires wide { AreWide self.now (length self.now.object) }
+        requires within { s < length self.now.object }
+        ensures { result ≡ (is_present self.now s && not (bit self.now.marked s)) }
+    {
+        self.is_present(s) && !self.marked.get(s)
     }
 
     // Whether the object of the slot was moved.
@@ -262,14 +297,14 @@ impl Marks {
             remembered: self.remembered.get(s),
             kept: self.kept.get(s),
             pinned: self.pinned.get(s),
-            gone: self.dead.get(s),
+            gone: self.gone.get(s),
         }
     }
 
     // The first slot from `s` on that holds an object that isn't gone.
-    pub fn first_present(&self, s: u32) -> Option<u32>
+    fn first_present(&self, s: u32) -> Option<u32>
         requires { AreWide self.now (length self.now.object) }
-        ensures { MatchOption result (IsAbsentFrom self.now s) (IsFirstPresent self.now s) }
+        ensures { MatchOption result (HasNoneFrom (is_present self.now) s) (IsNext (is_present self.now) s) }
     {
         let mut at = s;
         'slots: while at < self.object.len() {
@@ -279,5 +314,16 @@ impl Marks {
             at += 1;
         }
         None
+    }
+
+    // The first slot from `s` on that holds what is sought.
+    pub fn first(&self, sought: Sought, s: u32) -> Option<u32>
+        requires { AreWide self.now (length self.now.object) }
+        ensures { MatchOption result (HasNoneFrom (is_sought_in sought self.now) s) (IsNext (is_sought_in sought self.now) s) }
+    {
+        match sought {
+            Sought::Present => self.first_present(s),
+            Sought::Gone => self.gone.first_set_from(s),
+        }
     }
 }

@@ -1,8 +1,8 @@
 // The words of an object's slot.
 ghost use Rattle.std.specs.Prelude.{◌≡◌, ◌<◌, ◌≤◌, ◌+◌, length, Some, true};
 ghost use Rattle.space_pools.specs.PageSlots.{width_of};
-ghost use Rattle.space_pools.specs.PoolsView.{pool_at, taken_at, found_at, with_slot_at};
-ghost use Rattle.space_heap.specs.ObjectWords.{style_number as number_of_style, style_from, object_words, with_word};
+ghost use Rattle.space_pools.specs.PoolsView.{pool_at, used_at, found_at, with_slot_at};
+ghost use Rattle.space_heap.specs.words.ObjectWords.{style_number as number_of_style, style_from, object_words, with_word};
 
 use space_model::{MOST_FIELDS, Style};
 use space_pools::Pools;
@@ -41,21 +41,19 @@ fn write_object(words: &mut [u64], fields: u64, style: Style, name: u64)
 
 // Writes every word of a new object into a slot.
 pub fn write_slot(pools: &mut Pools, page: u32, slot: u32, fields: u64, style: Style, name: u64)
-    requires taken { taken_at pools.old page slot ≡ true }
+    requires used { used_at pools.old page slot ≡ true }
     requires few { fields ≤ MOST_FIELDS }
     ensures { pools.new ≡ with_slot_at pools.old page slot (Some (object_words (width_of (pool_at pools.old page)) fields style name)) }
 {
-    pools.page_count();
     write_object(pools.slot_mut(page, slot), fields, style, name);
 }
 
 // Writes one word of a slot.
 pub fn write_field(pools: &mut Pools, page: u32, slot: u32, i: u64, word: u64)
-    requires taken { taken_at pools.old page slot ≡ true }
+    requires used { used_at pools.old page slot ≡ true }
     requires within { 2 + i < width_of (pool_at pools.old page) }
     ensures { pools.new ≡ with_slot_at pools.old page slot (with_word i word (found_at pools.old page slot)) }
 {
-    pools.page_count();
     let words = pools.slot_mut(page, slot);
     words[2 + i as usize] = word;
 }

@@ -1,9 +1,10 @@
 // The planes and the pools at a verdict, and at the sweep of a page.
-ghost use Rattle.std.specs.Prelude.{◌≡◌, ◌<◌, ℕ, true, false, ◌||◌, length, slice_set, vec_capacity, is_some, count_by, MatchOption};
-ghost use Rattle.space_planes.specs.Planes.{bit};
-ghost use Rattle.space_pools.specs.PoolsView.{pool_at, page_at, free_at, with_page, with_freed_page};
-ghost use Rattle.space_heap.specs.MarkPlanes.{AreWide, marks_at};
-ghost use Rattle.space_heap.specs.SweptPlanes.{settled_marks, buried_marks, waiting_page, HoldsPages, HasNoPooled, SweepsPage};
+ghost use Rattle.std.specs.Prelude.{◌≡◌, ◌<◌, ℕ, true, false, ◌||◌, length, slice_set, vec_capacity, is_some, count_by, IsTrue, IsFalse};
+ghost use Rattle.space_planes.specs.Planes.{bit, IsClearFrom};
+ghost use Rattle.space_pools.specs.PoolsView.{pool_at, page_at, unswept_at, free_at, with_page, with_freed_page};
+ghost use Rattle.space_pools.specs.Sound.{IsSoundPools};
+ghost use Rattle.space_heap.specs.planes.MarkPlanes.{AreWide, marks_at};
+ghost use Rattle.space_heap.specs.planes.SweptPlanes.{settled_marks, swept_marks, waiting_page, HoldsPages, HasNoPooled, SweepsPage};
 ghost use Rattle.space_heap.specs.Sweeping.{has_gone};
 ghost use Rattle.space_heap.specs.Inside.{page_in, AreAllMarks};
 
@@ -16,7 +17,7 @@ fn settle_page(marks: &mut Marks)
     requires { AreWide marks.old (length marks.old.object) }
     ensures { marks.new ≡ settled_marks marks.old }
 {
-    marks.object.and_not_into(&marks.marked, &mut marks.dead);
+    marks.object.and_not_into(&marks.marked, &mut marks.gone);
 }
 
 // The objects of all pages that aren't marked are gone.
@@ -37,7 +38,6 @@ fn hold(pools: &mut Pools, page: u32) -> bool
     ensures page { pools.new ≡ with_page pools.old page (waiting_page (page_at pools.old page)) }
     ensures pool { result ≡ is_some (pool_at pools.old page) }
 {
-    pools.page_count();
     if pools.page_pool(page).is_none() {
         return false;
     }
@@ -63,65 +63,65 @@ pub fn hold_pages(pools: &mut Pools) -> bool
 // Makes the slots of the gone objects of a page free.
 fn free_gone(pools: &mut Pools, marks: &Marks, page: u32, working: &mut Plane)
     requires there { page < length pools.old.pages }
-    requires pool { is_some (pool_at pools.old page) ≡ true }
-    requires wide { length marks.now.dead ≡ length (page_at pools.old page).slots }
+    requires unswept { unswept_at pools.old page ≡ true }
+    requires wide { length marks.now.gone ≡ length (page_at pools.old page).slots }
     ensures page { pools.new ≡ with_freed_page pools.old page working.new }
-    ensures bits { (s : ℕ) → bit working.new s ≡ (free_at pools.old page s || bit marks.now.dead s) }
+    ensures bits { (s : ℕ) → bit working.new s ≡ (free_at pools.old page s || bit marks.now.gone s) }
+    ensures sound { IsSoundPools pools.old }
 {
-    working.reset(marks.dead.len());
-    pools.free_plane(page).or_into(&marks.dead, working);
+    working.reset(marks.gone.len());
+    pools.free_plane(page).or_into(&marks.gone, working);
     pools.free_page(page, working);
 }
 
 // The gone objects stand no more.
-fn bury(marks: &mut Marks, working: &mut Plane)
+fn clear_gone(marks: &mut Marks, working: &mut Plane)
     requires { AreWide marks.old (length marks.old.object) }
-    ensures { marks.new ≡ buried_marks marks.old }
+    ensures { marks.new ≡ swept_marks marks.old }
 {
     working.reset(marks.object.len());
-    marks.object.and_not_into(&marks.dead, working);
+    marks.object.and_not_into(&marks.gone, working);
     marks.object.copy_from(working);
-    marks.dead.fill(false);
+    marks.gone.fill(false);
 }
 
 // The gone objects of a page stand no more.
-fn bury_page(marks: &mut Vec<Marks>, page: u32, working: &mut Plane)
+fn clear_gone_on(marks: &mut Vec<Marks>, page: u32, working: &mut Plane)
     requires there { page < length marks.old.items }
     requires wide { AreWide (marks_at marks.old.items page) (length (marks_at marks.old.items page).object) }
-    ensures items { marks.new.items ≡ slice_set marks.old.items page (buried_marks (marks_at marks.old.items page)) }
+    ensures items { marks.new.items ≡ slice_set marks.old.items page (swept_marks (marks_at marks.old.items page)) }
     ensures room { vec_capacity marks.new ≡ vec_capacity marks.old }
 {
-    bury(&mut marks[page as usize], working);
+    clear_gone(&mut marks[page as usize], working);
 }
 
-// The slot of an object of the page, or one that an object left, if there is one.
-fn first_taken(marks: &Marks) -> Option<u32>
-    ensures { MatchOption result ((s : ℕ) → (bit marks.now.object s || bit marks.now.moved s) ≡ false) (λ s. (bit marks.now.object s || bit marks.now.moved s) ≡ true) }
+// Whether some slot of the page holds an object, or was left by one, where none of them is gone.
+fn has_used(marks: &Marks) -> bool
+    requires wide { AreWide marks.now (length marks.now.object) }
+    requires none_gone { IsClearFrom marks.now.gone 0 }
+    ensures some { IsTrue result → (s : ℕ) × ((bit marks.now.object s || bit marks.now.moved s) ≡ true) }
+    ensures none { IsFalse result → (s : ℕ) → (bit marks.now.object s || bit marks.now.moved s) ≡ false }
 {
-    match marks.object.first_set_from(0) {
-        Some(slot) => Some(slot),
-        None => marks.moved.first_set_from(0),
-    }
+    !marks.object.is_same(&marks.gone) || !marks.moved.is_same(&marks.gone)
 }
 
 // Sweeps a page, and answers how many slots of gone objects became free.
 pub fn sweep_one(pools: &mut Pools, marks: &mut Vec<Marks>, page: u32, working: &mut Plane) -> u32
     requires there { page < length pools.old.pages }
-    requires pool { is_some (pool_at pools.old page) ≡ true }
+    requires unswept { unswept_at pools.old page ≡ true }
     requires all { AreAllMarks pools.old marks.old.items }
     ensures swept { SweepsPage pools.old pools.new marks.old.items marks.new.items page }
     ensures gone { result ≡ count_by has_gone (page_in pools.old marks.old.items page).slots }
+    ensures sound { IsSoundPools pools.old }
     ensures room { vec_capacity marks.new ≡ vec_capacity marks.old }
 {
-    let gone = marks_of(marks, page).dead.count();
+    let gone = marks_of(marks, page).gone.count();
     free_gone(pools, marks_of(marks, page), page, working);
-    bury_page(marks, page, working);
-    match first_taken(marks_of(marks, page)) {
-        Some(_) => gone,
-        None => {
-            pools.release_page(page);
-            reset_page(marks, page, 0);
-            gone
-        }
+    clear_gone_on(marks, page, working);
+    if has_used(marks_of(marks, page)) {
+        return gone;
     }
+    pools.release_page(page);
+    reset_page(marks, page, 0);
+    gone
 }

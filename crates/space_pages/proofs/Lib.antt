@@ -1,3 +1,3 @@
-mod Fits
+pub mod Fits
 mod Writes
 pub mod SlotLaws

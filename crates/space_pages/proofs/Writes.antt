@@ -15,13 +15,15 @@ length-written : (i : ℕ) (xs ws : List ℕ) → length xs ≤ length (take i x
 length-written i xs ws = simp (length-append, length-drop, length-take) (omega arith)
 
 -- what a vector of n words holds once a part of it was lent
-pub lent : (n i : ℕ) (xs ws : List ℕ) → n ≡ length xs → let ys = take i xs ++ (ws ++ drop (length ws) (drop i xs)) in take n (ys ++ drop (length ys) xs) ≡ put_chunk i xs ws
+pub lent : (n i : ℕ) (xs ws : List ℕ) → n ≡ length xs
+    → let ys = take i xs ++ (ws ++ drop (length ws) (drop i xs)) in take n (ys ++ drop (length ys) xs) ≡ put_chunk i xs ws
 lent n i xs ws long =
     let ys = take i xs ++ (ws ++ drop (length ws) (drop i xs)) in
     rw (long, drop_all (length ys) xs (length-written i xs ws), append-nil ys) (written i xs ws)
 
 -- what a vector holds once a part of it was copied
-pub copied : (xs : List ℕ) (from to n end : ℕ) → end ≡ from + n → end ≤ length xs → to + n ≤ length xs → copy_within xs from end to ≡ put_chunk to xs (take n (drop from xs))
+pub copied : (xs : List ℕ) (from to n end : ℕ) → end ≡ from + n → end ≤ length xs → to + n ≤ length xs
+    → copy_within xs from end to ≡ put_chunk to xs (take n (drop from xs))
 copied xs from to n end ends within room =
     let part = take n (drop from xs) in
     let long : length part ≡ n = length-chunk from n xs (omega arith) in

@@ -2,7 +2,7 @@
 ghost use Rattle.std.specs.Prelude.{◌≡◌, ◌+◌, ◌*◌, ◌<◌, ◌≤◌, length, slice_index, slice_set, IfOk};
 ghost use Rattle.std.specs.Borrow.{sem};
 ghost use Rattle.space_model.specs.Layout.{page_slots as slots_of_page};
-ghost use Rattle.space_pages.specs.Slots.{blank_page, words_of, slots_end, slot_words, with_slot, with_clear_end};
+ghost use Rattle.space_pages.specs.Slots.{zeroed_page, words_of, slots_end, slot_words, with_slot, with_clear_end};
 ghost use Rattle.space_pages.specs.Lending.{LendsSlot};
 
 use space_model::{POOLS, page_slots, slot_bytes};
@@ -36,7 +36,7 @@ fn slot_len(pool: u8) -> usize
     (slot_bytes(pool) / 8) as usize
 }
 
-// The place of the first word of a slot.
+// The index of the first word of a slot.
 fn slot_start(pool: u8, s: u32) -> usize
     requires pool { pool < POOLS }
     requires slot { s < slots_of_page pool }
@@ -46,7 +46,7 @@ fn slot_start(pool: u8, s: u32) -> usize
     slot_len(pool) * s as usize
 }
 
-// The place of the first word past the last slot.
+// The index of the first word past the last slot.
 fn end_of_slots(pool: u8) -> usize
     requires { pool < POOLS }
     ensures end { result ≡ slots_end pool }
@@ -56,17 +56,17 @@ fn end_of_slots(pool: u8) -> usize
 }
 
 impl SlotPage {
-    #[tactic(auto, unfolding(crate::specs::Slots::blank_page))]
+    #[tactic(auto, unfolding(crate::specs::Slots::zeroed_page))]
     /// A page whose words are all 0. An `Err` says that there was no memory for it. No other call takes memory.
     pub fn new(alloc: Global) -> Result<SlotPage, NoMemory>
-        ensures { IfOk result (λ page. page ≡ blank_page) }
+        ensures { IfOk result (λ page. page ≡ zeroed_page) }
     {
         Ok(SlotPage {
             words: Vec::from_elem(alloc, 0, PAGE_WORDS)?,
         })
     }
 
-    /// The word at a place, counted in words from 0.
+    /// The word at an index, counted in words from 0.
     pub fn word(&self, k: usize) -> u64
         requires { k < PAGE_WORDS }
         ensures word { result ≡ slice_index self.now k }
@@ -75,7 +75,7 @@ impl SlotPage {
         self.words[k]
     }
 
-    /// Writes the word at a place, counted in words from 0.
+    /// Writes the word at an index, counted in words from 0.
     pub fn set_word(&mut self, k: usize, word: u64)
         requires { k < PAGE_WORDS }
         ensures { self.new ≡ slice_set self.old k word }

@@ -17,7 +17,8 @@ bit-replicate zero i = refl
 bit-replicate (suc n) zero = refl
 bit-replicate (suc n) (suc i) = bit-replicate n i
 
-bit-zip2 : (f : Bool → Bool → Bool) → f false false ≡ false → (left right : List Bool) (i : ℕ) → length left ≡ length right → bit (zip2 f left right) i ≡ f (bit left i) (bit right i)
+bit-zip2 : (f : Bool → Bool → Bool) → f false false ≡ false → (left right : List Bool) (i : ℕ) → length left ≡ length right
+    → bit (zip2 f left right) i ≡ f (bit left i) (bit right i)
 bit-zip2 f clear [] [] i same = sym clear
 bit-zip2 f clear [] (y ∷ right) i same = absurd (omega arith)
 bit-zip2 f clear (x ∷ left) [] i same = absurd (omega arith)
@@ -30,7 +31,8 @@ bit-set_in_both left right i same = bit-zip2 (λ left right. left && right) refl
 pub bit-set_in_either : (left right : List Bool) (i : ℕ) → length left ≡ length right → bit (set_in_either left right) i ≡ (bit left i || bit right i)
 bit-set_in_either left right i same = bit-zip2 (λ left right. left || right) refl left right i same
 
-pub bit-set_in_first_only : (left right : List Bool) (i : ℕ) → length left ≡ length right → bit (set_in_first_only left right) i ≡ (bit left i && not (bit right i))
+pub bit-set_in_first_only : (left right : List Bool) (i : ℕ) → length left ≡ length right
+    → bit (set_in_first_only left right) i ≡ (bit left i && not (bit right i))
 bit-set_in_first_only left right i same = bit-zip2 (λ left right. left && not right) refl left right i same
 
 pub length-set_in_both : (left right : List Bool) → length left ≡ length right → length (set_in_both left right) ≡ length left

@@ -1,2 +1,3 @@
 mod Zips
 pub mod Bits
+pub mod Counts

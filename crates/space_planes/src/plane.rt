@@ -1,7 +1,8 @@
 // One bit for each slot of a page.
-ghost use Rattle.std.specs.Prelude.{◌≡◌, ◌<◌, ◌≤◌, true, false, length, replicate, slice_set, IfOk, MatchOption};
+ghost use Rattle.std.specs.Prelude.{◌≡◌, ◌↔◌, ◌<◌, ◌≤◌, IsTrue, true, false, length, replicate, slice_set, IfOk, MatchOption};
 ghost use Rattle.space_planes.specs.Planes.{bit, count_set, set_in_both, set_in_either, set_in_first_only, IsClearFrom, IsFirstSet, IsClearBelow, IsLastSet};
 
+use crate::formulas;
 use std::alloc::{AllocError as NoMemory, Global};
 use std::marker::Model;
 
@@ -59,7 +60,7 @@ impl Plane {
         self.bits.len() as u32
     }
 
-    /// The bit at a place.
+    /// The bit at an index.
     pub fn get(&self, i: u32) -> bool
         requires { i < length self.now }
         ensures { result ≡ bit self.now i }
@@ -98,6 +99,13 @@ impl Plane {
         self.bits.copy_from_slice(&other.bits);
     }
 
+    /// Whether another plane has the same bits.
+    pub fn is_same(&self, other: &Plane) -> bool
+        ensures { IsTrue result ↔ self.now ≡ other.now }
+    {
+        self.bits.as_slice() == other.bits.as_slice()
+    }
+
     /// How many bits are 1.
     pub fn count(&self) -> u32
         ensures { result ≡ count_set self.now }
@@ -118,9 +126,7 @@ impl Plane {
         ensures bits { out.new ≡ set_in_first_only self.now other.now }
         ensures len { length out.new ≡ length self.now }
     {
-        for i in 0..self.bits.len() {
-            out.bits[i] = self.bits[i] & !other.bits[i];
-        }
+        formulas::and_not(&self.bits, &other.bits, &mut out.bits);
     }
 
     /// Writes 1 into `out` where both have 1, and 0 elsewhere.
@@ -130,9 +136,7 @@ impl Plane {
         ensures bits { out.new ≡ set_in_both self.now other.now }
         ensures len { length out.new ≡ length self.now }
     {
-        for i in 0..self.bits.len() {
-            out.bits[i] = self.bits[i] & other.bits[i];
-        }
+        formulas::and(&self.bits, &other.bits, &mut out.bits);
     }
 
     /// Writes 1 into `out` where one of them has 1, or both have, and 0 elsewhere.
@@ -142,12 +146,10 @@ impl Plane {
         ensures bits { out.new ≡ set_in_either self.now other.now }
         ensures len { length out.new ≡ length self.now }
     {
-        for i in 0..self.bits.len() {
-            out.bits[i] = self.bits[i] | other.bits[i];
-        }
+        formulas::or(&self.bits, &other.bits, &mut out.bits);
     }
 
-    /// The first place from `i` on whose bit is 1. Past the end there is none.
+    /// The first index from `i` on whose bit is 1. Past the end there is none.
     pub fn first_set_from(&self, i: u32) -> Option<u32>
         ensures { MatchOption result (IsClearFrom self.now i) (IsFirstSet self.now i) }
     {
@@ -161,7 +163,7 @@ impl Plane {
         None
     }
 
-    /// The last place below `i` whose bit is 1. Past the end there is none.
+    /// The last index below `i` whose bit is 1. Past the end there is none.
     pub fn last_set_below(&self, i: u32) -> Option<u32>
         ensures { MatchOption result (IsClearBelow self.now i) (IsLastSet self.now i) }
     {
@@ -208,7 +210,7 @@ mod tests {
         left.or_into(&right, &mut out);
         assert!(rt; out.count() == 5);
         out.copy_from(&left);
-        assert!(rt; out.count() == 2 && out.get(1));
+        assert!(rt; out.count() == 2 && out.get(1) && out.is_same(&left));
         let places = [
             (left.first_set_from(1), Some(1)),
             (left.first_set_from(2), Some(3)),

@@ -24,7 +24,8 @@ pub found_in-freed_in : (p : PageSlots) (free : List Bool) (slot : ℕ) → foun
 unfolding freed_in
 found_in-freed_in p free slot = ⊎_elim
     (λ within. get_or-map-range_with_len (freed_found p free) 0 (length p.slots) slot slot None within (omega arith))
-    (λ past. get_or_past (freed_in p free).slots slot None (let n = length-freed_in p free in omega arith) ∙ sym (nothing (bit free slot) (found_in p slot) (get_or_past p.slots slot None past)))
+    (λ past. get_or_past (freed_in p free).slots slot None (let n = length-freed_in p free in omega arith)
+    ∙ sym (nothing (bit free slot) (found_in p slot) (get_or_past p.slots slot None past)))
     (cases_lt slot (length p.slots))
   where
     nothing : (b : Bool) (found : Option (List ℕ)) → found ≡ None → cond b None found ≡ None
@@ -32,7 +33,8 @@ found_in-freed_in p free slot = ⊎_elim
     nothing false found e = e
 
 -- a slot is free exactly where it was or is in the plane
-pub free_in-freed_in : (p : PageSlots) (free : List Bool) (slot : ℕ) → slot < length p.slots → free_in (freed_in p free) slot ≡ (bit free slot || free_in p slot)
+pub free_in-freed_in : (p : PageSlots) (free : List Bool) (slot : ℕ) → slot < length p.slots
+    → free_in (freed_in p free) slot ≡ (bit free slot || free_in p slot)
 free_in-freed_in p free slot within =
     ap is_none (get_or_default (freed_in p free).slots slot (Some []) None (let n = length-freed_in p free in omega arith) ∙ found_in-freed_in p free slot)
     ∙ either (bit free slot) (found_in p slot)

@@ -39,19 +39,22 @@ module _ (v : PoolsView) (page slot : ℕ) (ws : List ℕ) (here : page < length
 
   same_pool : (k : ℕ) → pool_at w k ≡ pool_at v k
   same_pool k = ⊎_elim
-      (λ same. ap (λ (p : PageSlots). p.pool) (ap (page_at w) same ∙ page_at-with_page_same v page (written_in (page_at v page) slot ws) here) ∙ pool_written (page_at v page) slot ws ∙ ap (pool_at v) (sym same))
+      (λ same. ap (λ (p : PageSlots). p.pool) (ap (page_at w) same ∙ page_at-with_page_same v page (written_in (page_at v page) slot ws) here)
+      ∙ pool_written (page_at v page) slot ws ∙ ap (pool_at v) (sym same))
       (λ other. ap (λ (p : PageSlots). p.pool) (page_at-with_page_other v page k (written_in (page_at v page) slot ws) other))
       (cases_eq k page)
 
   same_free : (k i : ℕ) → free_in (page_at w k) i ≡ free_in (page_at v k) i
   same_free k i = ⊎_elim
-      (λ same. ap (λ p. free_in p i) (ap (page_at w) same ∙ page_at-with_page_same v page (written_in (page_at v page) slot ws) here) ∙ free_written (page_at v page) slot ws i ∙ ap (λ k. free_in (page_at v k) i) (sym same))
+      (λ same. ap (λ p. free_in p i) (ap (page_at w) same ∙ page_at-with_page_same v page (written_in (page_at v page) slot ws) here)
+      ∙ free_written (page_at v page) slot ws i ∙ ap (λ k. free_in (page_at v k) i) (sym same))
       (λ other. ap (λ p. free_in p i) (page_at-with_page_other v page k (written_in (page_at v page) slot ws) other))
       (cases_eq k page)
 
   same_unswept : (k : ℕ) → unswept_at w k ≡ unswept_at v k
   same_unswept k = ⊎_elim
-      (λ same. ap (λ (p : PageSlots). p.unswept) (ap (page_at w) same ∙ page_at-with_page_same v page (written_in (page_at v page) slot ws) here) ∙ unswept_written (page_at v page) slot ws ∙ ap (unswept_at v) (sym same))
+      (λ same. ap (λ (p : PageSlots). p.unswept) (ap (page_at w) same ∙ page_at-with_page_same v page (written_in (page_at v page) slot ws) here)
+      ∙ unswept_written (page_at v page) slot ws ∙ ap (unswept_at v) (sym same))
       (λ other. ap (λ (p : PageSlots). p.unswept) (page_at-with_page_other v page k (written_in (page_at v page) slot ws) other))
       (cases_eq k page)
 
@@ -77,28 +80,37 @@ pub next_page : (v : PoolsView) (pool : ℕ) → with_free_page v (length v.page
 unfolding with_free_page
 next_page v pool =
     let e : nat_lt (length v.pages) (length v.pages) ≡ false = grind (arith, nat_tests) in
-    λ i. record { limit = v.limit; pages = cond-false (nat_lt (length v.pages) (length v.pages)) (set v.pages (length v.pages) (free_page pool)) (v.pages ++ free_page pool ∷ []) e i }
+    λ i. record {
+      limit = v.limit;
+      pages = cond-false (nat_lt (length v.pages) (length v.pages)) (set v.pages (length v.pages) (free_page pool))
+          (v.pages ++ free_page pool ∷ []) e i;
+    }
 
 same_some : (a b : ℕ) → Some a ≡ Some b → a ≡ b
 same_some a b e = cc
 
 -- the pools after a page became another one of the pool, and the pool's cursor was lowered to it
-module _ (v : PoolsView) (page pool : ℕ) (q : PageSlots) (here : page < length v.pages) (its : q.pool ≡ Some pool) (cursors : List ℕ) (least : ℕ) (known : pool < length cursors) where
+module _ (v : PoolsView) (page pool : ℕ) (q : PageSlots) (here : page < length v.pages) (its : q.pool ≡ Some pool) (cursors : List ℕ) (least : ℕ)
+    (known : pool < length cursors) where
   lowered : (k other : ℕ) → least ≤ get_or cursors pool 0 → k < get_or (set cursors pool least) other 0 → k < get_or cursors other 0
   lowered k other lower below = ⊎_elim
-      (λ same. let e : get_or (set cursors pool least) other 0 ≡ least = ap (λ x. get_or (set cursors pool least) x 0) same ∙ get_or-set_same cursors pool least 0 known in let f : get_or cursors other 0 ≡ get_or cursors pool 0 = ap (λ x. get_or cursors x 0) same in omega arith)
+      (λ same. let e : get_or (set cursors pool least) other 0 ≡ least = ap (λ x. get_or (set cursors pool least) x 0) same
+      ∙ get_or-set_same cursors pool least 0 known in let f : get_or cursors other 0 ≡ get_or cursors pool 0 = ap (λ x. get_or cursors x 0) same in
+      omega arith)
       (λ differ. let e : get_or (set cursors pool least) other 0 ≡ get_or cursors other 0 = get_or-set_other cursors pool other least 0 differ in omega arith)
       (cases_eq other pool)
 
   pub full_lowered : least ≤ get_or cursors pool 0 → least ≤ page → AreFullBelow v cursors → AreFullBelow (with_page v page q) (set cursors pool least)
   full_lowered lower at h other k below own i swept = ⊎_elim
       (λ same.
-      let o : other ≡ pool = same_some other pool (sym own ∙ ap (pool_at (with_page v page q)) same ∙ ap (λ (p : PageSlots). p.pool) (page_at-with_page_same v page q here) ∙ its) in
+      let o : other ≡ pool = same_some other pool (sym own ∙ ap (pool_at (with_page v page q)) same
+      ∙ ap (λ (p : PageSlots). p.pool) (page_at-with_page_same v page q here) ∙ its) in
       let e : get_or (set cursors pool least) other 0 ≡ least = ap (λ x. get_or (set cursors pool least) x 0) o ∙ get_or-set_same cursors pool least 0 known in
       absurd (omega arith))
       (λ differ.
       let e : page_at (with_page v page q) k ≡ page_at v k = page_at-with_page_other v page k q differ in
-      ap (λ p. free_in p i) e ∙ h other k (lowered k other lower below) (sym (ap (λ (p : PageSlots). p.pool) e) ∙ own) i (sym (ap (λ (p : PageSlots). p.unswept) e) ∙ swept))
+      ap (λ p. free_in p i) e ∙ h other k (lowered k other lower below) (sym (ap (λ (p : PageSlots). p.pool) e) ∙ own) i
+      (sym (ap (λ (p : PageSlots). p.unswept) e) ∙ swept))
       (cases_eq k page)
 
   pub spares_same : pool_at v page ≡ Some pool → spare_count (with_page v page q) ≡ spare_count v
@@ -117,7 +129,9 @@ sound_freed p free pool its h = record {
 }
 
 -- what holds of the pools after the slots of a plane became free on a page
-pub freed_pools : (h : Inside) (page pool least : ℕ) (free : List Bool) (p : PageSlots) → ArePools h → page < length h.pages.items → pool_at (view_from h) page ≡ Some pool → pool < length h.cursors → least ≤ get_or h.cursors pool 0 → least ≤ page → p ≡ freed_in (page_at (view_from h) page) free → ArePools (record h { pages = with_item h.pages page p; cursors = set h.cursors pool least })
+pub freed_pools : (h : Inside) (page pool least : ℕ) (free : List Bool) (p : PageSlots) → ArePools h → page < length h.pages.items
+    → pool_at (view_from h) page ≡ Some pool → pool < length h.cursors → least ≤ get_or h.cursors pool 0 → least ≤ page
+    → p ≡ freed_in (page_at (view_from h) page) free → ArePools (record h { pages = with_item h.pages page p; cursors = set h.cursors pool least })
 freed_pools h page pool least free p known here its within lower at is =
     let v = view_from h in
     let pool_is : p.pool ≡ Some pool = ap (λ (p : PageSlots). p.pool) is ∙ pool_freed (page_at v page) free ∙ its in

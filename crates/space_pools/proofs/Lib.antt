@@ -1,6 +1,7 @@
 mod Pages
 mod Written
 mod Linked
+mod LinkWords
 mod Kept
 pub mod Freed
 pub mod Places

@@ -15,7 +15,7 @@ use Rattle.space_pools.proofs.Written.{over}
 use Rattle.space_pools.proofs.Linked.{clear_on, clear_after}
 use Rattle.space_pools.specs.PageLending.{written_within}
 use Rattle.space_pools.specs.declared.pool_page.PoolPage.TheInside.{Inside}
-use Rattle.space_pools.specs.PageSlots.{PageSlots, HoldsSlots, HasEachFree, freed_found, freed_in, width_of, written_in, free_page, count_of, free_in, taken_in, found_in, with_found_in}
+use Rattle.space_pools.specs.PageSlots.{PageSlots, HoldsSlots, HasEachFree, freed_found, freed_in, width_of, written_in, free_page, count_of, free_in, used_in, found_in, with_found_in}
 use Rattle.space_planes.proofs.Bits.{within_from_bit}
 use Rattle.space_pools.specs.Links.{slot_on, IsLinked, AreLinked, IsClearPast}
 use Rattle.space_pools.specs.Inside.{IsPoolPage, found_from, page_from}
@@ -66,14 +66,14 @@ from_some true words h = sym h
 from_some false words h = refl
 
 -- a slot that isn't free is within the page, and its bit is 0
-pub taken_is : (p : Inside) (slot : ℕ) → taken_in (page_from p) slot ≡ true → (slot < length p.free) × (bit p.free slot ≡ false)
-taken_is p slot taken = ⊎_elim
-    (λ within. (within, from_some (bit p.free slot) _ (sym (ap is_some (slot_is p slot None within)) ∙ taken)))
-    (λ past. absurd (true≢false (sym taken ∙ ap is_some (slot_past p slot None past))))
+pub used_is : (p : Inside) (slot : ℕ) → used_in (page_from p) slot ≡ true → (slot < length p.free) × (bit p.free slot ≡ false)
+used_is p slot used = ⊎_elim
+    (λ within. (within, from_some (bit p.free slot) _ (sym (ap is_some (slot_is p slot None within)) ∙ used)))
+    (λ past. absurd (true≢false (sym used ∙ ap is_some (slot_past p slot None past))))
     (cases_lt slot (length p.free))
 
-pub taken_from : (p : PageSlots) (slot : ℕ) (found : List ℕ) → found_in p slot ≡ Some found → taken_in p slot ≡ true
-taken_from p slot found e = ap is_some e
+pub used_from : (p : PageSlots) (slot : ℕ) (found : List ℕ) → found_in p slot ≡ Some found → used_in p slot ≡ true
+used_from p slot found e = ap is_some e
 
 -- a page with a slot has a pool
 pub has_pool : (pool : Option ℕ) (slot : ℕ) → slot < count_of pool → is_some pool ≡ true
@@ -81,12 +81,15 @@ has_pool None slot h = absurd (omega arith)
 has_pool (Some pool) slot h = refl
 
 -- one slot changes
-pub one_slot : (p q : Inside) (slot : ℕ) (found : Option (List ℕ)) → q.pool ≡ p.pool → q.unswept ≡ p.unswept → length q.free ≡ length p.free → slot < length p.free → found_from q slot ≡ found → ((k : ℕ) → k < length p.free → k ≢ slot → found_from q k ≡ found_from p k) → page_from q ≡ with_found_in (page_from p) slot found
+pub one_slot : (p q : Inside) (slot : ℕ) (found : Option (List ℕ)) → q.pool ≡ p.pool → q.unswept ≡ p.unswept → length q.free ≡ length p.free
+    → slot < length p.free → found_from q slot ≡ found → ((k : ℕ) → k < length p.free → k ≢ slot → found_from q k ≡ found_from p k)
+    → page_from q ≡ with_found_in (page_from p) slot found
 one_slot p q slot found pool unswept long within here other =
     let xs : List (Option (List ℕ)) = set (page_from p).slots slot found in
     let all : length xs ≡ length q.free = length-set (page_from p).slots slot found ∙ length-slots p ∙ sym long in
     let each : (k : ℕ) → k < length q.free → get_or xs k None ≡ found_from q k = λ k m. ⊎_elim
-    (λ e. subst (λ x. get_or xs x None ≡ found_from q x) (sym e) (get_or-set_same (page_from p).slots slot found None (let n = length-slots p in omega arith) ∙ sym here))
+    (λ e. subst (λ x. get_or xs x None ≡ found_from q x) (sym e) (get_or-set_same (page_from p).slots slot found None (let n = length-slots p in omega arith)
+    ∙ sym here))
     (λ d. get_or-set_other (page_from p).slots slot k found None d ∙ slot_is p k None (omega arith) ∙ sym (other k (omega arith) d))
     (cases_eq k slot) in
     let e : xs ≡ map (found_from q) (range_with_len 0 (length q.free)) = fill_by_all (found_from q) xs (length q.free) None all each in
@@ -105,7 +108,8 @@ all_free q pool its swept free =
     λ i. record { pool = its i; slots = sym e i; unswept = swept i }
 
 -- what holds of the fields of a page of the pool whose slots are all free
-pub fresh : (q : Inside) (pool : ℕ) → q.pool ≡ Some pool → pool < 5 → q.free ≡ replicate (page_slots pool) true → q.lowest ≡ 0 → length q.words ≡ 8192 → AreLinked (Some pool) q.words q.free → ((k : ℕ) → slots_end pool ≤ k → get_or q.words k 0 ≡ 0) → IsPoolPage q
+pub fresh : (q : Inside) (pool : ℕ) → q.pool ≡ Some pool → pool < 5 → q.free ≡ replicate (page_slots pool) true → q.lowest ≡ 0 → length q.words ≡ 8192
+    → AreLinked (Some pool) q.words q.free → ((k : ℕ) → slots_end pool ≤ k → get_or q.words k 0 ≡ 0) → IsPoolPage q
 fresh q pool its known free first whole linked clear =
     let long : length q.free ≡ page_slots pool = ap length free ∙ length-replicate (page_slots pool) true in record {
       whole = whole;
@@ -119,7 +123,8 @@ fresh q pool its known free first whole linked clear =
     }
 
 -- the slots of a plane become free, and the words of the others stay
-pub freed : (p : Inside) (words : List ℕ) (free : List Bool) (low : ℕ) → length free ≡ length p.free → HasEachFree (page_from p) free → ((k : ℕ) → k < length free → bit free k ≡ false → slot_on p.pool words k ≡ slot_on p.pool p.words k)
+pub freed : (p : Inside) (words : List ℕ) (free : List Bool) (low : ℕ) → length free ≡ length p.free → HasEachFree (page_from p) free
+    → ((k : ℕ) → k < length free → bit free k ≡ false → slot_on p.pool words k ≡ slot_on p.pool p.words k)
     → page_from (record p { words = words; free = free; lowest = low; unswept = false }) ≡ freed_in (page_from p) free
 unfolding freed_in
 freed p words free low long each same =
@@ -154,7 +159,8 @@ full_from p slot h past = ⊎_elim
     (λ above. get_or_past p.free slot false (omega arith))
     (cases_lt slot p.lowest)
 
-long_on : (pool : Option ℕ) (words : List ℕ) (slot : ℕ) → length words ≡ 8192 → ((k : ℕ) → pool ≡ Some k → k < 5) → slot < count_of pool → length (slot_on pool words slot) ≡ width_of pool
+long_on : (pool : Option ℕ) (words : List ℕ) (slot : ℕ) → length words ≡ 8192 → ((k : ℕ) → pool ≡ Some k → k < 5) → slot < count_of pool
+    → length (slot_on pool words slot) ≡ width_of pool
 long_on None words slot whole known within = absurd (omega arith)
 long_on (Some pool) words slot whole known within = length-slot_words words pool slot whole (known pool refl) within
 
@@ -163,26 +169,27 @@ long_slot p slot h within = long_on p.pool p.words slot h.whole h.known (let l =
 
 pub holds : (p : Inside) → HoldsSlots (page_from p) p.words
 holds p pool slot found its e =
-    let t = taken_is p slot (ap is_some e) in
+    let t = used_is p slot (ap is_some e) in
     let f = found_is p slot t.0 t.1 in
     let on : slot_on p.pool p.words slot ≡ slot_words p.words pool slot = ap (λ o. slot_on o p.words slot) its in
     cc
 
 -- the words that a slot is found with, on a page of this pool
-pub found_on : (p : Inside) (pool slot : ℕ) → p.pool ≡ Some pool → taken_in (page_from p) slot ≡ true → found_in (page_from p) slot ≡ Some (slot_words p.words pool slot)
-found_on p pool slot its taken =
-    let t = taken_is p slot taken in
+pub found_on : (p : Inside) (pool slot : ℕ) → p.pool ≡ Some pool → used_in (page_from p) slot ≡ true
+    → found_in (page_from p) slot ≡ Some (slot_words p.words pool slot)
+found_on p pool slot its used =
+    let t = used_is p slot used in
     found_is p slot t.0 t.1 ∙ ap Some (ap (λ o. slot_on o p.words slot) its)
 
-pub slot_within : (p : Inside) (pool slot : ℕ) → IsPoolPage p → p.pool ≡ Some pool → taken_in (page_from p) slot ≡ true → slot < page_slots pool
-slot_within p pool slot h its taken =
-    let t = (taken_is p slot taken).0 in
+pub slot_within : (p : Inside) (pool slot : ℕ) → IsPoolPage p → p.pool ≡ Some pool → used_in (page_from p) slot ≡ true → slot < page_slots pool
+slot_within p pool slot h its used =
+    let t = (used_is p slot used).0 in
     let l = h.long in
     let e : count_of p.pool ≡ page_slots pool = ap count_of its in
     omega arith
 
 -- the page after a slot of it was lent
-module _ (p : Inside) (pool slot : ℕ) (ws : List ℕ) (h : IsPoolPage p) (its : p.pool ≡ Some pool) (taken : taken_in (page_from p) slot ≡ true) where
+module _ (p : Inside) (pool slot : ℕ) (ws : List ℕ) (h : IsPoolPage p) (its : p.pool ≡ Some pool) (used : used_in (page_from p) slot ≡ true) where
   abbrev old : List ℕ
   old = slot_words p.words pool slot
 
@@ -196,13 +203,15 @@ module _ (p : Inside) (pool slot : ℕ) (ws : List ℕ) (h : IsPoolPage p) (its 
   count = h.long ∙ ap count_of its
 
   within : slot < page_slots pool
-  within = slot_within p pool slot h its taken
+  within = slot_within p pool slot h its used
 
   wide : length (put_chunk 0 old ws) ≡ words_of pool
   wide = length-put_chunk 0 old ws ∙ length-slot_words p.words pool slot h.whole known within
 
-  found_after : (k : ℕ) (words : List ℕ) → slot_words (written_within p.words pool slot ws) pool k ≡ words → found_from after k ≡ cond (bit p.free k) None (Some words)
-  found_after k words e = ap (λ o. cond (bit p.free k) None (Some (slot_on o (written_within p.words pool slot ws) k))) its ∙ ap (λ found. cond (bit p.free k) None (Some found)) e
+  found_after : (k : ℕ) (words : List ℕ) → slot_words (written_within p.words pool slot ws) pool k ≡ words
+      → found_from after k ≡ cond (bit p.free k) None (Some words)
+  found_after k words e = ap (λ o. cond (bit p.free k) None (Some (slot_on o (written_within p.words pool slot ws) k))) its
+      ∙ ap (λ found. cond (bit p.free k) None (Some found)) e
 
   pub same : slot_words (written_within p.words pool slot ws) pool slot ≡ put_chunk 0 old ws
   same = slot_words-with_slot_same p.words pool slot (put_chunk 0 old ws) h.whole known within wide
@@ -213,14 +222,15 @@ module _ (p : Inside) (pool slot : ℕ) (ws : List ℕ) (h : IsPoolPage p) (its 
   pub lent : page_from after ≡ written_in (page_from p) slot ws
   unfolding written_in
   lent =
-      let t = taken_is p slot taken in
+      let t = used_is p slot used in
       one_slot p after slot (over ws (found_in (page_from p) slot)) refl refl refl t.0
-      (found_after slot (put_chunk 0 old ws) same ∙ cond-false (bit p.free slot) None _ t.1 ∙ sym (ap (over ws) (found_on p pool slot its taken)))
-      (λ k inside differ. found_after k (slot_words p.words pool k) (other k inside differ) ∙ sym (ap (λ o. cond (bit p.free k) None (Some (slot_on o p.words k))) its))
+      (found_after slot (put_chunk 0 old ws) same ∙ cond-false (bit p.free slot) None _ t.1 ∙ sym (ap (over ws) (found_on p pool slot its used)))
+      (λ k inside differ. found_after k (slot_words p.words pool k) (other k inside differ)
+      ∙ sym (ap (λ o. cond (bit p.free k) None (Some (slot_on o p.words k))) its))
 
   pub linked_after_loan : AreLinked p.pool (written_within p.words pool slot ws) p.free
   linked_after_loan k b =
-      let t = taken_is p slot taken in
+      let t = used_is p slot used in
       let e : slot_on p.pool (written_within p.words pool slot ws) k ≡ slot_on p.pool p.words k =
       ap (λ o. slot_on o (written_within p.words pool slot ws) k) its
       ∙ other k (within_from_bit p.free k b) (λ same. true≢false (sym b ∙ ap (bit p.free) same ∙ t.1))
@@ -228,4 +238,5 @@ module _ (p : Inside) (pool slot : ℕ) (ws : List ℕ) (h : IsPoolPage p) (its 
       subst (IsLinked p.free k) (sym e) (h.linked k b)
 
   pub clear_after_loan : IsClearPast p.pool (written_within p.words pool slot ws)
-  clear_after_loan = clear_after p.pool pool p.words (written_within p.words pool slot ws) its (λ k past. get_or-with_slot_past p.words pool slot (put_chunk 0 old ws) k 0 within wide past) h.clear_past
+  clear_after_loan = clear_after p.pool pool p.words (written_within p.words pool slot ws) its
+      (λ k past. get_or-with_slot_past p.words pool slot (put_chunk 0 old ws) k 0 within wide past) h.clear_past

@@ -24,13 +24,15 @@ unfolding written_in
 length-written_in p slot ws = length-set p.slots slot (over ws (found_in p slot))
 
 -- each slot is as before, but for its own words
-pub found_written : (p : PageSlots) (slot : ℕ) (ws : List ℕ) (k : ℕ) → (found_in (written_in p slot ws) k ≡ found_in p k) ⊎ (found_in (written_in p slot ws) k ≡ over ws (found_in p k))
+pub found_written : (p : PageSlots) (slot : ℕ) (ws : List ℕ) (k : ℕ)
+    → (found_in (written_in p slot ws) k ≡ found_in p k) ⊎ (found_in (written_in p slot ws) k ≡ over ws (found_in p k))
 unfolding written_in
 found_written p slot ws k =
     let found : Option (List ℕ) = over ws (found_in p slot) in
     ⊎_elim
     (λ same. ⊎_elim
-    (λ within. inr (ap (found_in (with_found_in p slot found)) same ∙ get_or-set_same p.slots slot found None within ∙ ap (λ k. over ws (found_in p k)) (sym same)))
+    (λ within. inr (ap (found_in (with_found_in p slot found)) same ∙ get_or-set_same p.slots slot found None within
+    ∙ ap (λ k. over ws (found_in p k)) (sym same)))
     (λ past. inl (ap (λ slots. found_in (record p { slots = slots }) k) (set_past p.slots slot found past)))
     (cases_lt slot (length p.slots)))
     (λ other. inl (get_or-set_other p.slots slot k found None other))

@@ -30,18 +30,18 @@ pub record TakesLeast (v w : PoolsView) (pool address : ℕ) : Type 0 where
   pub long : length words ≡ words_of pool
   pub becomes : w ≡ with_slot_at v found.free.page found.free.slot (Some words)
 
--- the lowest page of the pool that births don't pass over, and the first of its free slots
-pub record IsLowestPlace (v : PoolsView) (pool page slot : ℕ) : Type 0 where
+-- the lowest page of the pool that allocations don't pass over, and the first of its free slots
+pub record IsLowestFreeSlot (v : PoolsView) (pool page slot : ℕ) : Type 0 where
   pub has_pool : pool_at v page ≡ Some pool
   pub first : IsFirstFree (page_at v page) slot
   pub below : (other : ℕ) → other < page → pool_at v other ≡ Some pool → IsPassedOver (page_at v other)
 
--- births pass over each page of the pool
+-- allocations pass over each page of the pool
 abbrev pub AreFull : PoolsView → ℕ → Type 0
 AreFull v pool = (page : ℕ) → pool_at v page ≡ Some pool → IsPassedOver (page_at v page)
 
 -- w is v after a slot of a page of the pool got words
-pub record TakesPlace (v w : PoolsView) (pool page slot : ℕ) : Type 0 where
+pub record TakesFreeSlot (v w : PoolsView) (pool page slot : ℕ) : Type 0 where
   pub words : List ℕ
   pub long : length words ≡ words_of pool
   pub becomes : w ≡ with_slot_at v page slot (Some words)

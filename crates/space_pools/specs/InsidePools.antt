@@ -10,7 +10,7 @@ use Rattle.space_pools.specs.Sound.{IsSoundPools}
 abbrev pub view_from : Inside → PoolsView
 view_from p = record { limit = p.limit; pages = p.pages.items }
 
--- births pass over each page of a pool below the pool's cursor
+-- allocations pass over each page of a pool below the pool's cursor
 abbrev pub AreFullBelow : PoolsView → List ℕ → Type 0
 AreFullBelow v cursors = (pool page : ℕ) → page < slice_index_or cursors pool 0 → pool_at v page ≡ Some pool → IsPassedOver (page_at v page)
 

@@ -35,8 +35,8 @@ abbrev pub free_in : PageSlots → ℕ → Bool
 free_in p slot = is_none (slice_index_or p.slots slot (Some []))
 
 -- whether the page has this slot and it isn't free
-abbrev pub taken_in : PageSlots → ℕ → Bool
-taken_in p slot = is_some (slice_index_or p.slots slot None)
+abbrev pub used_in : PageSlots → ℕ → Bool
+used_in p slot = is_some (slice_index_or p.slots slot None)
 
 -- the words of a slot that isn't free; none where it is free, and where there is no such slot
 abbrev pub found_in : PageSlots → ℕ → Option (List ℕ)
@@ -50,7 +50,7 @@ with_found_in p slot found = record p { slots = slice_set p.slots slot found }
 abbrev pub HoldsSlots : PageSlots → List ℕ → Type 0
 HoldsSlots p words = (pool slot : ℕ) (found : List ℕ) → p.pool ≡ Some pool → found_in p slot ≡ Some found → slot_words words pool slot ≡ found
 
--- births pass over the page: it waits for a sweep, or no slot of it is free
+-- allocations pass over the page: it waits for a sweep, or no slot of it is free
 abbrev pub IsPassedOver : PageSlots → Type 0
 IsPassedOver p = (slot : ℕ) → p.unswept ≡ false → free_in p slot ≡ false
 

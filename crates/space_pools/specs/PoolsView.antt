@@ -1,6 +1,7 @@
 -- What a contract sees of the pools: the most pages, and what is found in each slot of each page.
-use Rattle.std.specs.Prelude.{ℕ, Bool, List, Option, slice_index_or, slice_set}
-use Rattle.space_pools.specs.PageSlots.{PageSlots, spare_page, free_in, taken_in, found_in, with_found_in, written_in, held_in, freed_in}
+use Rattle.std.specs.Prelude.{◌≡◌, ℕ, ◌≤◌, Bool, List, Option, None, Some, slice_index_or, slice_set}
+use Rattle.space_model.specs.Layout.{page_of}
+use Rattle.space_pools.specs.PageSlots.{PageSlots, spare_page, free_in, used_in, found_in, with_found_in, written_in, held_in, freed_in}
 
 -- the pools as callers see them: the most pages that there may be, and the pages
 pub record PoolsView : Type 0 where
@@ -15,6 +16,16 @@ page_at v page = slice_index_or v.pages page spare_page
 abbrev pub pool_at : PoolsView → ℕ → Option ℕ
 pool_at v page = (page_at v page).pool
 
+-- the address is on this page, which has this pool
+pub record IsOnPage (v : PoolsView) (a page pool : ℕ) : Type 0 where
+  pub past : 65536 ≤ a
+  pub on : page ≡ page_of a
+  pub its : pool_at v page ≡ Some pool
+
+-- the address is on no page that has a pool
+abbrev pub IsOffPages : PoolsView → ℕ → Type 0
+IsOffPages v a = 65536 ≤ a → pool_at v (page_of a) ≡ None
+
 -- whether the page waits for a sweep
 abbrev pub unswept_at : PoolsView → ℕ → Bool
 unswept_at v page = (page_at v page).unswept
@@ -24,8 +35,8 @@ abbrev pub free_at : PoolsView → ℕ → ℕ → Bool
 free_at v page slot = free_in (page_at v page) slot
 
 -- whether there is this slot and it isn't free
-abbrev pub taken_at : PoolsView → ℕ → ℕ → Bool
-taken_at v page slot = taken_in (page_at v page) slot
+abbrev pub used_at : PoolsView → ℕ → ℕ → Bool
+used_at v page slot = used_in (page_at v page) slot
 
 -- the words of a slot that isn't free; none where it is free, and where there is no such slot
 abbrev pub found_at : PoolsView → ℕ → ℕ → Option (List ℕ)

@@ -29,9 +29,12 @@ abbrev pub IsNextPage : PoolsView → ℕ → Type 0
 IsNextPage v page = IsLeastSpare v page ⊎ (HasNoSpare v × (page ≡ length v.pages) × (page < v.limit))
 
 -- no page is spare, and there are as many as the limit allows
-abbrev pub IsAtLimit : PoolsView → Type 0
-IsAtLimit v = HasNoSpare v × (length v.pages ≡ v.limit)
+abbrev pub IsOutOfPages : PoolsView → Type 0
+IsOutOfPages v = HasNoSpare v × (length v.pages ≡ v.limit)
 
 -- the pools after a page of theirs, or the next one, became one of the pool whose slots are all free
 unfoldable pub with_free_page : PoolsView → ℕ → ℕ → PoolsView
-with_free_page v page pool = record v { pages = if nat_lt page (length v.pages) then slice_set v.pages page (free_page pool) else v.pages ++ free_page pool ∷ [] }
+with_free_page v page pool = record v {
+  pages = if nat_lt page (length v.pages) then slice_set v.pages page (free_page pool) else v.pages ++ free_page
+      pool ∷ [];
+}

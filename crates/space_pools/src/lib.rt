@@ -1,4 +1,4 @@
-//! Pools: pages of slots, where a birth finds the lowest free address of its pool.
+//! Pools: pages of slots, where an allocation finds the lowest free address of its pool.
 #![tactic(auto)]
 
 mod pool_page;

@@ -1,14 +1,14 @@
 // One page of the pools: its words, its pool, and which of its slots are free.
-ghost use Rattle.std.specs.Prelude.{◌≡◌, ℕ, ◌+◌, ◌<◌, ◌≤◌, length, slice_index_or, Some, true, false, is_some, IfOk, MatchOption};
+ghost use Rattle.std.specs.Prelude.{◌≡◌, ℕ, ◌+◌, ◌*◌, ◌<◌, ◌≤◌, length, slice_index_or, Some, true, false, is_some, IfOk, MatchOption};
 ghost use Rattle.std.specs.Borrow.{sem};
 ghost use Rattle.space_model.specs.Layout.{page_slots as slots_of_page};
 ghost use Rattle.space_planes.specs.Planes.{bit};
-ghost use Rattle.space_pools.specs.PageSlots.{free_page, spare_page, free_in, taken_in, found_in, width_of, held_in, freed_in, HoldsSlots, HasEachFree, IsPassedOver, IsFirstFree, TakesSlot};
+ghost use Rattle.space_pools.specs.PageSlots.{free_page, spare_page, free_in, used_in, found_in, width_of, held_in, freed_in, HoldsSlots, HasEachFree, IsPassedOver, IsFirstFree, TakesSlot};
 ghost use Rattle.space_pages.specs.Slots.{slot_words, slots_end, words_of};
 ghost use Rattle.space_pools.specs.Links.{AreLinked, IsClearPast, with_link};
 ghost use Rattle.space_pools.specs.PageLending.{LendsWithin, LendsOnPage};
 
-use space_model::{POOLS, page_slots};
+use space_model::{POOLS, page_slots, slot_bytes};
 use space_pages::SlotPage;
 use space_planes::Plane;
 use std::alloc::{AllocError as NoMemory, Global};
@@ -57,7 +57,7 @@ fn known(pool: Option<u8>) -> u8
     }
 }
 
-// The first place from `from` on whose bit is 1, or the number of bits where there is none.
+// The first index from `from` on whose bit is 1, or the number of bits where there is none.
 fn free_from(free: &Plane, from: u32) -> u32
     requires { from ≤ length free.now }
     ensures start { from ≤ result }
@@ -83,26 +83,19 @@ fn slot_within(words: &mut SlotPage, pool: u8, s: u32) -> &mut [u64]
     words.slot_mut(pool, s)
 }
 
-// The link to the next free slot, which is 0 where no slot of the page follows.
-fn link_to(next: u32, slots: u32) -> u64
-    ensures some { next < slots → result ≡ 1 + next }
-    ensures none { slots ≤ next → result ≡ 0 }
-{
-    if next < slots { next as u64 + 1 } else { 0 }
-}
-
 // Writes the first two words of a free slot: 0, and its link.
-fn put_link(words: &mut SlotPage, pool: u8, s: u32, link: u64)
+fn put_link(words: &mut SlotPage, pool: u8, start: usize, s: u32, link: u64)
     requires pool { pool < POOLS }
     requires slot { s < slots_of_page pool }
+    requires start { start ≡ words_of pool * s }
+    requires whole { length words.old ≡ 8192 }
     ensures { words.new ≡ with_link words.old pool s link }
 {
-    let slot = words.slot_mut(pool, s);
-    slot[0] = 0;
-    slot[1] = link;
+    words.set_word(start, 0);
+    words.set_word(start + 1, link);
 }
 
-// Writes the links of the slots of the plane, each slot once, from the first one on. All other slots
+// Writes the links of the slots of the plane, each slot once, from the last one down. All other slots
 // and the words past the last one stay.
 fn put_links(words: &mut SlotPage, pool: u8, free: &Plane)
     requires pool { pool < POOLS }
@@ -113,12 +106,15 @@ fn put_links(words: &mut SlotPage, pool: u8, free: &Plane)
     ensures others { (slot : ℕ) → slot < length free.now → bit free.now slot ≡ false → slot_words words.new pool slot ≡ slot_words words.old pool slot }
     ensures past { (k : ℕ) → slots_end pool ≤ k → slice_index_or words.new k 0 ≡ slice_index_or words.old k 0 }
 {
-    let slots = free.len();
-    let mut s = free_from(free, 0);
-    'slots: while s < slots {
-        let next = free_from(free, s + 1);
-        put_link(words, pool, s, link_to(next, slots));
-        s = next;
+    let width = (slot_bytes(pool) / 8) as usize;
+    let mut link = 0;
+    let mut s = free.len();
+    'slots: while s > 0 {
+        s -= 1;
+        if free.get(s) {
+            put_link(words, pool, width * s as usize, s, link);
+            link = u64::from(s) + 1;
+        }
     }
 }
 
@@ -169,6 +165,11 @@ impl PoolPage {
         requires each { HasEachFree self.old free.now }
         ensures { self.new ≡ freed_in self.old free.now }
     {
+        // Where no further slot becomes free the links stay as they are.
+        if free.is_same(&self.free) {
+            self.unswept = false;
+            return;
+        }
         put_links(&mut self.words, known(self.pool), free);
         self.free.copy_from(free);
         self.lowest = free_from(free, 0);
@@ -246,7 +247,7 @@ impl PoolPage {
 
     // The words of a slot that isn't free.
     pub fn slot(&self, s: u32) -> &[u64]
-        requires { taken_in self.now s ≡ true }
+        requires { used_in self.now s ≡ true }
         ensures words { found_in self.now s ≡ Some result.now }
         ensures len { length result.now ≡ width_of self.now.pool }
     {
@@ -255,7 +256,7 @@ impl PoolPage {
 
     // The words of a slot that isn't free, to be written.
     pub fn slot_mut(&mut self, s: u32) -> &mut [u64]
-        requires { taken_in self.old s ≡ true }
+        requires { used_in self.old s ≡ true }
         ensures* writes_back { sem 𝓛 (LendsOnPage self.entry s result) }
         ensures words { found_in self.old s ≡ Some result.now }
         ensures len { length result.now ≡ width_of self.old.pool }

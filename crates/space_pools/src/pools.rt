@@ -3,9 +3,9 @@ ghost use Rattle.std.specs.Prelude.{◌≡◌, ◌↔◌, ℕ, ◌<◌, ◌≤�
 ghost use Rattle.std.specs.Borrow.{sem};
 ghost use Rattle.space_pools.specs.PageSlots.{HoldsSlots, HasEachFree, width_of};
 ghost use Rattle.space_pools.specs.Links.{IsClearPast};
-ghost use Rattle.space_pools.specs.PoolsView.{page_at, pool_at, unswept_at, free_at, taken_at, found_at, with_held_page, with_freed_page, with_spare_page};
-ghost use Rattle.space_pools.specs.Free.{IsLeastFree, HasNoFree, TakesLeast, IsLowestPlace, AreFull, TakesPlace};
-ghost use Rattle.space_pools.specs.Spare.{spare_count, IsSpareAt, HasNoSpare, IsLeastSpare, IsNextPage, IsAtLimit, with_free_page};
+ghost use Rattle.space_pools.specs.PoolsView.{page_at, pool_at, IsOnPage, IsOffPages, unswept_at, free_at, used_at, found_at, with_held_page, with_freed_page, with_spare_page};
+ghost use Rattle.space_pools.specs.Free.{IsLeastFree, HasNoFree, TakesLeast, IsLowestFreeSlot, AreFull, TakesFreeSlot};
+ghost use Rattle.space_pools.specs.Spare.{spare_count, IsSpareAt, HasNoSpare, IsLeastSpare, IsNextPage, IsOutOfPages, with_free_page};
 ghost use Rattle.space_pools.specs.Sound.{IsSoundPools};
 ghost use Rattle.space_planes.specs.Planes.{bit};
 ghost use Rattle.space_pools.specs.Lending.{LendsSlot};
@@ -33,7 +33,7 @@ pub struct Pools {
     alloc: Global,
     limit: u32,
     pages: Vec<PoolPage>,
-    // For each pool, a number of pages: births pass over each page of the pool below it.
+    // For each pool, a number of pages: allocations pass over each page of the pool below it.
     cursors: [u32; 5],
     spare: u32,
 }
@@ -92,9 +92,30 @@ impl Pools {
     /// The pool of a page, or `None` for a spare page.
     pub fn page_pool(&self, page: u32) -> Option<u8>
         requires { page < length self.now.pages }
-        ensures { result ≡ pool_at self.now page }
+        ensures pool { result ≡ pool_at self.now page }
+        ensures sound { IsSoundPools self.now }
     {
         self.pages[page as usize].pool()
+    }
+
+    /// The page that an address is on, and its pool; `None` where no page with a pool is there. The page
+    /// numbered 0 begins at 65,536 (this project's own).
+    pub fn page_with(&self, address: u64) -> Option<(u32, u8)>
+        ensures page { MatchOption result (IsOffPages self.now address) (λ at. IsOnPage self.now address at.0 at.1) }
+        ensures sound { IsSoundPools self.now }
+    {
+        let count = self.page_count();
+        if address < 65536 {
+            return None;
+        }
+        let page = address / 65536 - 1;
+        if page >= u64::from(count) {
+            return None;
+        }
+        match self.page_pool(page as u32) {
+            Some(pool) => Some((page as u32, pool)),
+            None => None,
+        }
     }
 
     /// Whether the page waits for a sweep. A spare one doesn't.
@@ -110,6 +131,7 @@ impl Pools {
         requires { page < length self.now.pages }
         ensures len { length result.now ≡ length (page_at self.now page).slots }
         ensures bits { (s : ℕ) → bit result.now s ≡ free_at self.now page s }
+        ensures sound { IsSoundPools self.now }
     {
         self.pages[page as usize].free_plane()
     }
@@ -120,6 +142,7 @@ impl Pools {
         ensures whole { length result.now ≡ 8192 }
         ensures words { HoldsSlots (page_at self.now page) result.now }
         ensures clear_past { IsClearPast (pool_at self.now page) result.now }
+        ensures sound { IsSoundPools self.now }
     {
         self.pages[page as usize].words()
     }
@@ -134,7 +157,7 @@ impl Pools {
 
     /// The words of a slot that isn't free.
     pub fn slot(&self, page: u32, s: u32) -> &[u64]
-        requires { taken_at self.now page s ≡ true }
+        requires { used_at self.now page s ≡ true }
         ensures words { found_at self.now page s ≡ Some result.now }
         ensures len { length result.now ≡ width_of (pool_at self.now page) }
     {
@@ -143,19 +166,20 @@ impl Pools {
 
     /// The words of a slot that isn't free, to be written. All other words stay.
     pub fn slot_mut(&mut self, page: u32, s: u32) -> &mut [u64]
-        requires { taken_at self.old page s ≡ true }
+        requires { used_at self.old page s ≡ true }
         ensures* writes_back { sem 𝓛 (LendsSlot self.entry page s result) }
         ensures words { found_at self.old page s ≡ Some result.now }
         ensures len { length result.now ≡ width_of (pool_at self.old page) }
+        ensures sound { IsSoundPools self.old }
     {
         let page = &mut self.pages[page as usize];
         page.slot_mut(s)
     }
 
-    // The lowest page of the pool that births don't pass over, and its first free slot.
-    fn lowest_place(&self, pool: u8) -> Option<(u32, u32)>
+    // The lowest page of the pool that allocations don't pass over, and its first free slot.
+    fn lowest_free_slot(&self, pool: u8) -> Option<(u32, u32)>
         requires { pool < POOLS }
-        ensures place { MatchOption result (AreFull self.now pool) (λ place. IsLowestPlace self.now pool place.0 place.1) }
+        ensures place { MatchOption result (AreFull self.now pool) (λ place. IsLowestFreeSlot self.now pool place.0 place.1) }
         ensures sound { IsSoundPools self.now }
     {
         let mut page = self.cursors[pool as usize];
@@ -172,19 +196,20 @@ impl Pools {
     /// but for those that wait for a sweep. The page numbered 0 begins at 65,536 (this project's own).
     pub fn lowest_free(&self, pool: u8) -> Option<u64>
         requires { pool < POOLS }
-        ensures { MatchOption result (HasNoFree self.now pool) (IsLeastFree self.now pool) }
+        ensures lowest { MatchOption result (HasNoFree self.now pool) (IsLeastFree self.now pool) }
+        ensures sound { IsSoundPools self.now }
     {
-        match self.lowest_place(pool) {
+        match self.lowest_free_slot(pool) {
             Some((page, slot)) => Some(address_of(page, pool, slot)),
             None => None,
         }
     }
 
     // Takes the first free slot of the lowest page of the pool that has one.
-    fn take_place(&mut self, pool: u8, page: u32, slot: u32)
+    fn take_free_slot(&mut self, pool: u8, page: u32, slot: u32)
         requires known { pool < POOLS }
-        requires place { IsLowestPlace self.old pool page slot }
-        ensures { TakesPlace self.old self.new pool page slot }
+        requires place { IsLowestFreeSlot self.old pool page slot }
+        ensures { TakesFreeSlot self.old self.new pool page slot }
     {
         self.cursors[pool as usize] = page;
         self.pages[page as usize].take_slot(slot);
@@ -196,18 +221,19 @@ impl Pools {
     pub fn take(&mut self, pool: u8) -> Option<u64>
         requires { pool < POOLS }
         ensures lowest { MatchOption result (HasNoFree self.old pool) (IsLeastFree self.old pool) }
-        ensures taken { MatchOption result (self.new ≡ self.old) (TakesLeast self.old self.new pool) }
+        ensures used { MatchOption result (self.new ≡ self.old) (TakesLeast self.old self.new pool) }
+        ensures sound { IsSoundPools self.old }
     {
-        match self.lowest_place(pool) {
+        match self.lowest_free_slot(pool) {
             Some((page, slot)) => {
-                self.take_place(pool, page, slot);
+                self.take_free_slot(pool, page, slot);
                 Some(address_of(page, pool, slot))
             }
             None => None,
         }
     }
 
-    /// Makes a page wait for a sweep: its slots stay, and births pass over it.
+    /// Makes a page wait for a sweep: its slots stay, and allocations pass over it.
     pub fn hold_page(&mut self, page: u32)
         requires there { page < length self.old.pages }
         requires pool { is_some (pool_at self.old page) ≡ true }
@@ -234,10 +260,10 @@ impl Pools {
         }
     }
 
-    /// Makes a page without a taken slot spare. Its memory stays, for a pool that it is given to.
+    /// Makes a page without a used slot spare. Its memory stays, for a pool that it is given to.
     pub fn release_page(&mut self, page: u32)
         requires there { page < length self.old.pages }
-        requires empty { (s : ℕ) → taken_at self.old page s ≡ false }
+        requires empty { (s : ℕ) → used_at self.old page s ≡ false }
         ensures { self.new ≡ with_spare_page self.old page }
     {
         if self.page_pool(page).is_none() {
@@ -284,9 +310,7 @@ impl Pools {
     {
         let made = PoolPage::new(self.alloc, pool)?;
         let page = self.pages.len() as u32;
-        if self.pages.push(made).is_err() {
-            unreachable!();
-        }
+        self.pages.push_reserved(made);
         self.cursors[pool as usize] = page.min(self.cursors[pool as usize]);
         Ok(())
     }
@@ -297,9 +321,10 @@ impl Pools {
         requires { pool < POOLS }
         ensures next { IfOk result (IsNextPage self.old) }
         ensures added { IfOk result (λ page. self.new ≡ with_free_page self.old page pool) }
-        ensures at_limit { (result ≡ Err PageFault.AtLimit) ↔ IsAtLimit self.old }
+        ensures at_limit { (result ≡ Err PageFault.AtLimit) ↔ IsOutOfPages self.old }
         ensures none_spare { OnErr result (HasNoSpare self.old) }
         ensures failed { OnErr result (self.new ≡ self.old) }
+        ensures sound { IsSoundPools self.old }
     {
         if let Some(page) = self.lowest_spare() {
             self.give_page(page, pool);
@@ -322,7 +347,7 @@ mod tests {
     use std::test::Fail;
 
     #[test]
-    fn births_take_the_lowest_address_of_their_pool(rt: HostRuntime) -> Result<(), Fail> {
+    fn allocations_take_the_lowest_address_of_their_pool(rt: HostRuntime) -> Result<(), Fail> {
         let mut pools = Pools::new(rt.alloc(), 3)?;
         assert!(rt; pools.take(0).is_none());
         assert!(rt; pools.add_page(0) == Ok(0) && pools.add_page(1) == Ok(1));
@@ -356,7 +381,7 @@ mod tests {
     }
 
     #[test]
-    fn births_pass_over_a_page_that_waits_for_a_sweep(rt: HostRuntime) -> Result<(), Fail> {
+    fn allocations_pass_over_a_page_that_waits_for_a_sweep(rt: HostRuntime) -> Result<(), Fail> {
         let mut pools = Pools::new(rt.alloc(), 2)?;
         assert!(rt; pools.add_page(4) == Ok(0) && pools.add_page(4) == Ok(1));
         if pools.page_count() == 2 && pools.page_pool(0).is_some() {
@@ -367,7 +392,7 @@ mod tests {
         Ok(())
     }
 
-    #[tactic(auto, unfolding(space_model::specs::Layout::slot_bytes, space_model::specs::Layout::page_slots), using(crate::proofs::PoolLaws::taken_from_not_free))]
+    #[tactic(auto, unfolding(space_model::specs::Layout::slot_bytes, space_model::specs::Layout::page_slots), using(crate::proofs::PoolLaws::used_from_not_free))]
     #[test]
     fn the_words_of_a_slot_are_written_and_read(rt: HostRuntime) -> Result<(), Fail> {
         let mut pools = Pools::new(rt.alloc(), 1)?;

@@ -1,13 +1,13 @@
 // The calls of a marking.
 ghost use Rattle.std.specs.Prelude.{◌≡◌, ◌*◌, true, [], length, IfSome, IfNone};
 ghost use Rattle.space_heap.specs.Objects.{is_object};
-ghost use Rattle.space_heap.specs.Marking.{colour_of, greyed, blackened, unmarked, IsLastGrey, IsCoherent, HasAtMost};
+ghost use Rattle.space_heap.specs.Marking.{colour_of, visited, greyed, blackened, unmarked, IsLastGrey, IsCoherent, HasAtMost};
 
+use crate::addresses::{find_slot, slot_of};
 use crate::colour::Colour;
 use crate::heap::Heap;
 use crate::mark_stack::push_grey;
-use crate::marks::{paint_slot, unmark_pages};
-use crate::slot_place::slot_place;
+use crate::marks::{marks_of, recolour_slot, unmark_pages};
 
 impl Heap {
     /// How many objects are grey.
@@ -29,35 +29,38 @@ impl Heap {
         self.grey.last().copied()
     }
 
-    /// A white object is grey now, and comes last of the grey ones (the colours are those of CRuby 3.3).
-    /// It takes no memory.
+    /// Makes the object that a word names grey, the last of the grey ones, where it is white (the colours are those of CRuby
+    /// 3.3). Any other word changes nothing. It takes no memory.
+    pub fn grey_if_white(&mut self, word: u64)
+        ensures { self.new ≡ visited self.old word }
+    {
+        let Some((page, slot)) = find_slot(&self.pools, word) else {
+            return;
+        };
+        if !marks_of(&self.marks, page).is_white(slot) {
+            return;
+        }
+        recolour_slot(&mut self.marks, page, slot, Colour::Grey);
+        push_grey(&mut self.grey, word);
+    }
+
+    /// A white object is grey now, and comes last of the grey ones. It takes no memory.
     pub fn grey(&mut self, address: u64)
         requires object { is_object self.old address ≡ true }
         requires white { colour_of self.old address ≡ Colour.White }
         ensures { self.new ≡ greyed self.old address }
     {
-        self.pools.page_count();
-        match slot_place(&self.pools, address) {
-            Some((page, slot)) => {
-                paint_slot(&mut self.marks, page, slot, false);
-                push_grey(&mut self.grey, address);
-            }
-            None => unreachable!(),
-        }
+        self.grey_if_white(address);
     }
 
-    /// The object that became grey last is black now (the colours are those of CRuby 3.3).
+    /// The object that became grey last is black now.
     pub fn blacken(&mut self, address: u64)
         requires { IsLastGrey self.old address }
         ensures { self.new ≡ blackened self.old address }
     {
-        match slot_place(&self.pools, address) {
-            Some((page, slot)) => {
-                paint_slot(&mut self.marks, page, slot, true);
-                self.grey.pop();
-            }
-            None => unreachable!(),
-        }
+        let (page, slot) = slot_of(&self.pools, address);
+        recolour_slot(&mut self.marks, page, slot, Colour::Black);
+        self.grey.pop();
     }
 
     /// Takes all marks away: each object, gone or not, is white, and neither remembered nor kept.
@@ -75,24 +78,13 @@ mod tests {
     use space_model::{Guard, Style};
     use std::test::Fail;
 
-    // Makes the object that a word names grey, where it is white.
-    #[tactic(auto, using(crate::proofs::ObjectLaws::object_from_word, crate::proofs::ObjectLaws::stands_from_word))]
-    fn visit(heap: &mut Heap, word: u64) {
-        if let Some(address) = heap.object_at(word) {
-            match heap.colour(address) {
-                Colour::White => heap.grey(address),
-                _ => {}
-            }
-        }
-    }
-
-    // Whether an object was born that has one field.
-    fn is_born(heap: &mut Heap) -> bool {
+    // Whether an object was allocated that has one field.
+    fn is_allocated(heap: &mut Heap) -> bool {
         heap.born() < 1 << 40 && heap.place(1, Guard::Protected, Style::Keeping).is_ok()
     }
 
     // The colour of the object that a word names.
-    #[tactic(auto, using(crate::proofs::ObjectLaws::stands_from_word))]
+    #[tactic(auto, using(crate::proofs::ObjectLaws::occupied_from_word))]
     fn colour(heap: &Heap, word: u64) -> Option<Colour> {
         match heap.object_at(word) {
             Some(address) => Some(heap.colour(address)),
@@ -104,9 +96,9 @@ mod tests {
     fn the_object_that_became_grey_last_becomes_black_first(rt: HostRuntime) -> Result<(), Fail> {
         let mut heap = Heap::new(rt.alloc(), 1)?;
         assert!(rt; heap.add_page(0) == Ok(0));
-        assert!(rt; is_born(&mut heap) && is_born(&mut heap) && is_born(&mut heap));
+        assert!(rt; is_allocated(&mut heap) && is_allocated(&mut heap) && is_allocated(&mut heap));
         for word in [0x10050, 0x10000, 0x10029, 0x10050] {
-            visit(&mut heap, word);
+            heap.grey_if_white(word);
         }
         assert!(rt; heap.grey_count() == 2 && heap.last_grey() == Some(0x10000));
         if let Some(address) = heap.last_grey() {

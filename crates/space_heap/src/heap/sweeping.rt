@@ -1,14 +1,14 @@
 // The calls of a verdict and of a sweep.
-ghost use Rattle.std.specs.Prelude.{◌≡◌, ◌<◌, ◌^◌, ℕ, MatchOption, true, false, [], length, if◌then◌else◌};
+ghost use Rattle.std.specs.Prelude.{◌≡◌, ◌<◌, ◌^◌, ℕ, true, false, [], length, if◌then◌else◌};
+ghost use Rattle.space_model.specs.Counts.{CountIs};
 ghost use Rattle.space_heap.specs.HeapView.{is_unswept};
-ghost use Rattle.space_heap.specs.NextGone.{HasNoGoneFrom, IsNextGone, HasNoneOn, IsNextGoneOn};
-ghost use Rattle.space_heap.specs.Sweeping.{settled, minors_after, others_after, swept, HasNoGone};
+ghost use Rattle.space_heap.specs.SoundHeap.{IsSoundHeap};
+ghost use Rattle.space_heap.specs.Sweeping.{settled, minors_after, others_after, swept, IsGone, HasNoGone};
 
 use crate::heap::Heap;
 use crate::marks::marks_of;
-use crate::slot_place::first_slot;
 use crate::sweeps::{hold_pages, settle_pages, sweep_one};
-use space_model::{Kind, Phase, address_of};
+use space_model::{Kind, Phase};
 
 // The phase after a verdict.
 fn phase_after(some: bool) -> Phase
@@ -64,7 +64,7 @@ impl Heap {
     }
 
     /// Whether the page waits for a sweep. A spare one doesn't.
-    #[tactic(auto, using(crate::proofs::Unswept::waiting))]
+    #[tactic(auto, using(crate::proofs::fields::Unswept::waiting))]
     pub fn page_unswept(&self, page: u32) -> bool
         requires { page < length self.now.pages }
         ensures { result ≡ is_unswept self.now page }
@@ -73,7 +73,7 @@ impl Heap {
     }
 
     /// Changes the phase.
-    #[tactic(auto, using(crate::proofs::SettledSlots::phases))]
+    #[tactic(auto, using(crate::proofs::updates::SettledSlots::phases))]
     pub fn set_phase(&mut self, phase: Phase)
         ensures { self.new ≡ record self.old { phase = phase } }
     {
@@ -103,43 +103,22 @@ impl Heap {
     pub fn sweep_page(&mut self, page: u32)
         requires unswept { is_unswept self.old page ≡ true }
         requires few { self.old.counters.freed < 2 ^ 62 }
-        ensures { self.new ≡ swept self.old page }
+        ensures swept { self.new ≡ swept self.old page }
+        ensures sound { IsSoundHeap self.old }
     {
-        self.pools.page_count();
         let gone = sweep_one(&mut self.pools, &mut self.marks, page, &mut self.working);
         self.freed += u64::from(gone);
     }
 
-    // The least address on a page, from this one on, where a gone object stands.
-    fn next_gone_on(&self, page: u32, from: u64) -> Option<u64>
-        requires { page < length self.now.pages }
-        ensures { MatchOption result (HasNoneOn self.now page from) (IsNextGoneOn self.now page from) }
+    /// How many gone objects wait for the sweep of their pages.
+    pub fn gone_count(&self) -> u64
+        ensures gone { CountIs (IsGone self.now) result }
+        ensures sound { IsSoundHeap self.now }
     {
-        self.pools.page_count();
-        match self.pools.page_pool(page) {
-            Some(pool) => {
-                let start = first_slot(page, pool, from);
-                match marks_of(&self.marks, page).dead.first_set_from(start) {
-                    Some(slot) => Some(address_of(page, pool, slot)),
-                    None => None,
-                }
-            }
-            None => None,
+        let mut count = 0;
+        'pages: for page in 0..self.pools.page_count() {
+            count += u64::from(marks_of(&self.marks, page).gone.count());
         }
-    }
-
-    /// The least address not below `from` where a gone object stands, or `None` where none does.
-    pub fn next_gone(&self, from: u64) -> Option<u64>
-        ensures { MatchOption result (HasNoGoneFrom self.now from) (IsNextGone self.now from) }
-    {
-        // It begins with the page of `from`, so that a walk over all gone objects looks at each slot once.
-        let mut page = (from / 65536).saturating_sub(1);
-        'pages: while page < u64::from(self.page_count()) {
-            if let Some(address) = self.next_gone_on(page as u32, from) {
-                return Some(address);
-            }
-            page += 1;
-        }
-        None
+        count
     }
 }

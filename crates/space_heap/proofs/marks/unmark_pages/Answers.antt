@@ -1,7 +1,7 @@
 use Rattle.std.proofs.Common.{◌∙◌, arith}
 use Rattle.std.proofs.lemmas.List.{length-set}
 use Rattle.std.proofs.lemmas.List.Edits.{map_over_more}
-use Rattle.space_heap.specs.PaintedMarks.{unmarked_marks}
+use Rattle.space_heap.specs.planes.RecolouredMarks.{unmarked_marks}
 use Rattle.space_heap.proofs.marks.unmark_pages.Goals as goal
 
 pub loop-page-preserved : goal.loop-page-preserved
@@ -10,7 +10,8 @@ loop-page-preserved c =
     let n = c.loop-page.marks.ok.0 in
     let e = c.len-page-end.ensures in
     record {
-      items = rw c.unmark.ensures (map_over_more unmarked_marks c.args.marks.now.items c.loop-page.marks.items c.loop-page.page c.index_mut.result.now (omega arith) c.loop-page.invariant.items c.index_mut.ensures.value);
+      items = rw c.unmark.ensures (map_over_more unmarked_marks c.args.marks.now.items c.loop-page.marks.items c.loop-page.page c.index_mut.result.now
+          (omega arith) c.loop-page.invariant.items c.index_mut.ensures.value);
       len = length-set c.loop-page.marks.items c.loop-page.page c.unmark.new.self ∙ l;
       room = c.loop-page.invariant.room;
     }

@@ -1,5 +1,5 @@
 use Rattle.std.proofs.Common.{◌≡◌, ◌++◌, length, map, take, drop, vec_capacity}
-use Rattle.space_heap.specs.PaintedMarks.{unmarked_marks}
+use Rattle.space_heap.specs.planes.RecolouredMarks.{unmarked_marks}
 use Rattle.space_heap.proofs.marks.unmark_pages.Given as goal
 
 -- the pages so far are without marks

@@ -6,5 +6,5 @@ use Rattle.space_heap.proofs.sweeps.free_gone.Goals as goal
 pub free_page-requires-clause-each : goal.free_page-requires-clause-each
 free_page-requires-clause-each c slot free =
     ap (λ plane. bit plane slot) c.or_into.ensures.bits
-    ∙ bit-set_in_either c.free_plane.result.now c.args.marks.now.dead slot (c.free_plane.ensures.len ∙ sym c.requires.wide)
-    ∙ ap (λ b. b || bit c.args.marks.now.dead slot) (c.free_plane.ensures.bits slot ∙ free)
+    ∙ bit-set_in_either c.free_plane.result.now c.args.marks.now.gone slot (c.free_plane.ensures.len ∙ sym c.requires.wide)
+    ∙ ap (λ b. b || bit c.args.marks.now.gone slot) (c.free_plane.ensures.bits slot ∙ free)

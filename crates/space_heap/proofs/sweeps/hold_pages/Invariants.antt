@@ -1,7 +1,7 @@
 use Rattle.std.proofs.Common.{◌≡◌, ℕ, ◌<◌, ◌≤◌, true, false, length}
 use Rattle.std.specs.Prelude.{is_some}
 use Rattle.space_pools.specs.PoolsView.{page_at, pool_at}
-use Rattle.space_heap.specs.SweptPlanes.{waiting_page}
+use Rattle.space_heap.specs.planes.SweptPlanes.{waiting_page}
 use Rattle.space_heap.proofs.sweeps.hold_pages.Given as goal
 
 -- the pages so far wait where they have a pool, and the others are as before

@@ -1,6 +1,6 @@
 use Rattle.std.proofs.Common.{◌≡◌, ℕ, ◌<◌, ◌≤◌, length, vec_capacity}
-use Rattle.space_heap.specs.MarkPlanes.{marks_at}
-use Rattle.space_heap.specs.SweptPlanes.{settled_marks}
+use Rattle.space_heap.specs.planes.MarkPlanes.{marks_at}
+use Rattle.space_heap.specs.planes.SweptPlanes.{settled_marks}
 use Rattle.space_heap.proofs.sweeps.settle_pages.Given as goal
 
 -- the pages so far are settled, and the others are as before

@@ -55,10 +55,12 @@ module _ {M : Type 1} {𝓤 : Ura M} (𝓛 : Logic 𝓤) (κ : Lft) (q : Share) 
 
   -- the slice under a new name, the token, and what the lender ends as
   abbrev Lent : GName → SProp 𝓤
-  Lent δ = sep 𝓤 (sem 𝓛 ((MutSlice (named 0) κ u64).own_val (self δ) (slice_val (b, o) (length xs) ∷ []))) (sep 𝓤 (A.lft κ q) (sem 𝓛 (follows (Array u64 0) (Array u64 0) γ δ (put_chunk 0 xs))))
+  Lent δ = sep 𝓤 (sem 𝓛 ((MutSlice (named 0) κ u64).own_val (self δ) (slice_val (b, o) (length xs) ∷ [])))
+      (sep 𝓤 (A.lft κ q) (sem 𝓛 (follows (Array u64 0) (Array u64 0) γ δ (put_chunk 0 xs))))
 
   -- as many words as there were are all of them
-  back : (ws : List ℕ) → ent 𝓤 (sep 𝓤 (sem 𝓛 ((Arr (mem u64) (length xs)).own_at ws b o)) (emp 𝓤)) (sem 𝓛 ((Arr (mem u64) (length xs)).own_at (put_chunk 0 xs ws) b o))
+  back : (ws : List ℕ) → ent 𝓤 (sep 𝓤 (sem 𝓛 ((Arr (mem u64) (length xs)).own_at ws b o)) (emp 𝓤))
+      (sem 𝓛 ((Arr (mem u64) (length xs)).own_at (put_chunk 0 xs ws) b o))
   back ws = qed 𝓛 (‵ ((Arr (mem u64) (length xs)).own_at ws b o) ∷ raw (emp 𝓤) ∷ []) ∵ fsplit ! $ feq_l ! (λ e.
       rewrite ! 0 (λ (l : List ℕ). ‵ (cells (mem u64) l b o)) (sym (put_chunk_whole xs ws (sym e))) refl $
       feq_i ! ℕ (length (put_chunk 0 xs ws)) (length xs) (length-put_chunk 0 xs ws) $ fjoin ! $ keep ! (0 ∷ []) $ done !)
@@ -66,19 +68,29 @@ module _ {M : Type 1} {𝓤 : Ura M} (𝓛 : Logic 𝓤) (κ : Lft) (q : Share) 
   lends : Room u64 (length xs) → (vs : List Val)
       → ent 𝓤 (sep 𝓤 (sem 𝓛 ((MutSlice (named 0) κ u64).own_val (self γ) vs)) (A.lft κ q)) (H.⇛ (ex 𝓤 Lent))
   lends rm vs = qed 𝓛 (‵ ((MutSlice (named 0) κ u64).own_val (self γ) vs) ∷ ‵ (flft κ q) ∷ []) ∵ updating ! $ fsplit3 ! $ drop ! $
-      rewrite ! 0 (λ (l : List ℕ). ‵ (fobs γ ((coded_list u64.coded).code l))) (heres_id u64 xs) refl $ open_ref ! tt (Arr (mem u64) (length xs)) {b = b} {o = o} $
+      rewrite ! 0 (λ (l : List ℕ). ‵ (fobs γ ((coded_list u64.coded).code l))) (heres_id u64 xs) refl $ open_ref ! tt (Arr (mem u64) (length xs)) {b = b}
+      {o = o} $
       nothing ! $ move ! (2 ∷ 3 ∷ 4 ∷ 1 ∷ 0 ∷ []) $ group ! 5 $
-      use1 𝓛 (later (some (λ (δ : GName). ‵ (fobs δ ((coded_list u64.coded).code xs)) ⊛ ‵ (fbor κ (Borrowed (Arr (mem u64) (length xs)) b o δ)) ⊛ ‵ (flft κ q) ⊛ ‵ (follows (Array u64 0) (Array u64 0) γ δ (put_chunk 0 xs)))))
-      (takes_part 𝓛 (Arr (mem u64) (length xs)) (Arr (mem u64) (length xs)) (put_chunk 0 xs) κ q b o b o γ (emp 𝓤) back ((coded_list u64.coded).code xs) ((coded_list u64.coded).code xs) xs) $ await ! tt $ pick ! (λ δ. split3 ! $
-      use2 𝓛 (‵ ((MutSlice (named 0) κ u64).own_val (self δ) (slice_val (b, o) (length xs) ∷ []))) (slice_of 𝓛 u64 (named 0) κ b o δ xs rm) $ now ! $ show ! Lent δ $ done !)
+      use1 𝓛 (later (some (λ (δ : GName). ‵ (fobs δ ((coded_list u64.coded).code xs)) ⊛ ‵ (fbor κ (Borrowed (Arr (mem u64) (length xs)) b o δ)) ⊛ ‵
+      (flft κ q) ⊛ ‵ (follows (Array u64 0) (Array u64 0) γ δ (put_chunk 0 xs)))))
+      (takes_part 𝓛 (Arr (mem u64) (length xs)) (Arr (mem u64) (length xs)) (put_chunk 0 xs) κ q b o b o γ (emp 𝓤) back ((coded_list u64.coded).code xs)
+      ((coded_list u64.coded).code xs) xs) $ await ! tt $ pick ! (λ δ. split3 ! $
+      use2 𝓛 (‵ ((MutSlice (named 0) κ u64).own_val (self δ) (slice_val (b, o) (length xs) ∷ []))) (slice_of 𝓛 u64 (named 0) κ b o δ xs rm) $ now ! $ show !
+      Lent δ $ done !)
 
 pub slot_within_spec : {M : Type 1} → statement M
 slot_within_spec 𝓤 𝓛 𝓜 𝓡 wired =
     let c = f.clauses 𝓛 𝓜.mem 𝓡.returns in
-    proved 𝓛 f.ended stayed c 𝓜 𝓡
-    (Goes-spent_ref 𝓛 1 (0 ∷ []) tt (plain (λ _. the_row)), (Goes-dropped 𝓛 1 (plain (λ _. u8)) yes (λ κs x w. refl), (Goes-dropped 𝓛 1 (plain (λ _. u32)) yes (λ κs x w. refl), tt)))
+    proved 𝓛 f.ended stayed c 𝓜 𝓡 (
+      Goes-spent_ref 𝓛 1 (0 ∷ []) tt (plain (λ _. the_row)),
+      (
+        Goes-dropped 𝓛 1 (plain (λ _. u8)) yes (λ κs x w. refl),
+        (Goes-dropped 𝓛 1 (plain (λ _. u32)) yes (λ κs x w. refl), tt),
+      ),
+    )
     f.Key.name code.function (code.unfolded 𝓤 𝓛.H 𝓜 𝓡 wired)
-    (λ κs. (mut_vals, (uint_vals w8, (uint_vals w32, tt)))) (λ κs. (mut_Tells (named 0) κs.0 the_row, (uint_Tells w8, (uint_Tells w32, tt)))) (λ κs qs bounds a n are.
+    (λ κs. (mut_vals, (uint_vals w8, (uint_vals w32, tt)))) (λ κs. (mut_Tells (named 0) κs.0 the_row, (uint_Tells w8, (uint_Tells w32, tt))))
+    (λ κs qs bounds a n are.
     let κ = κs.0 in let q = qs.0 in let page = a.0 in let pool = a.1.0 in let s = a.1.1.0 in
     let G = triple_of 𝓛 g.signature (g.spec 𝓛 𝓜.mem 𝓡.returns) in
     let z : G.Ghost = ((κs, qs, bounds, a, (mut_vals page, (uint_vals w8 pool, (uint_vals w32 s, tt)))), tt) in
@@ -88,13 +100,17 @@ slot_within_spec 𝓤 𝓛 𝓜 𝓡 wired =
     calls_at ! (framed 𝓤 𝓛.H 𝓜 (tables 𝓤 𝓛.H 𝓜 𝓡 𝓡.env)) G (met 𝓤 𝓛 𝓜 𝓡 (code.calls-space_pages::page::SlotPage::slot_mut 𝓡.env wired)) z
     (and_then ! (get ! refl) (and_then ! (get ! refl) (and_then ! (get ! refl) (no_more !)))) (λ v.
     use1 𝓛 (later (some (λ (r : MutBor (List ℕ)). ((‵ (flft κ q) ⊛ ‵ ftrue) ⊛ ‵ ((MutSlice (named 0) κ u64).own_val r (v ∷ []))) ⊛
-    some (λ (ws : Unit {0} × (Unit {0} × (Unit {0} × Unit {0}))). ‵ (lasts g.ended κs a ws) ⊛ (‵ (follows the_row (Array u64 0) page.ghost_name r.ghost_name (with_slot page.now pool s)) ⊛
+    some (λ (ws : Unit {0} × (Unit {0} × (Unit {0} × Unit {0}))).
+    ‵ (lasts g.ended κs a ws) ⊛ (‵ (follows the_row (Array u64 0) page.ghost_name r.ghost_name (with_slot page.now pool s)) ⊛
     (raw (fact 𝓤 (r.now ≡ slot_words page.now pool s)) ⊛ raw (fact 𝓤 (length r.now ≡ words_of pool)))))))) (id⊢ 𝓤 _) $
-    await ! tt $ pick ! (λ r. split ! $ split ! $ split ! $ move ! (3 ∷ []) $ pick ! (λ ws. split ! $ drop ! $ split ! $ move ! (1 ∷ []) $ split ! $ heard ! _ (λ is. heard ! _ (λ long.
+    await ! tt $ pick ! (λ r. split ! $ split ! $ split ! $ move ! (3 ∷ []) $ pick !
+    (λ ws. split ! $ drop ! $ split ! $ move ! (1 ∷ []) $ split ! $ heard ! _ (λ is. heard ! _ (λ long.
     -- [what the page follows; the token; nothing; the slice]
     move ! (3 ∷ []) $ peeks ! (MutSlice (named 0) κ u64) (Is (MutSlice (named 0) κ u64)) (shows 𝓛 (MutSlice (named 0) κ u64)) r (v ∷ []) (λ at.
     lands_as ! (ap only at.0.0) refl (tt, (tt, (record { fits = at.0.1.0 }, tt))) $
-    move ! (0 ∷ 2 ∷ []) $ use2 𝓛 (later (some (λ (δ : GName). ‵ ((MutSlice (named 0) κ u64).own_val (record r { ghost_name = δ }) (slice_val r.ref_ptr (length r.now) ∷ [])) ⊛ ‵ (flft κ q) ⊛ ‵ (follows (Array u64 0) (Array u64 0) r.ghost_name δ (put_chunk 0 r.now)))))
+    move ! (0 ∷ 2 ∷ []) $ use2 𝓛 (later (some (λ (δ : GName).
+    ‵ ((MutSlice (named 0) κ u64).own_val (record r { ghost_name = δ }) (slice_val r.ref_ptr (length r.now) ∷ [])) ⊛ ‵ (flft κ q) ⊛ ‵
+    (follows (Array u64 0) (Array u64 0) r.ghost_name δ (put_chunk 0 r.now)))))
     (lends 𝓛 κ q r.ref_ptr.0 r.ref_ptr.1 r.ghost_name r.now at.0.1 (v ∷ [])) $ await ! tt $ pick ! (λ δ. split3 ! $
     -- [the slice; the token; the slice's name follows the new one; what the page follows; nothing]
     move ! (3 ∷ 2 ∷ []) $ use2 𝓛 (‵ (follows the_row (Array u64 0) page.ghost_name δ (λ w. with_slot page.now pool s (put_chunk 0 r.now w))))
@@ -102,4 +118,5 @@ slot_within_spec 𝓤 𝓛 𝓜 𝓡 wired =
     rewrite ! 0 (λ (l : List ℕ). ‵ (follows the_row (Array u64 0) page.ghost_name δ (λ w. with_slot page.now pool s (put_chunk 0 l w)))) is refl $
     returns ! (look_at ! 0 refl) $ free_all ! refl $ keep ! (1 ∷ 2 ∷ 0 ∷ []) $
     suffices ! _ (ends_at 𝓛 f.ended stayed c z (slice_val r.ref_ptr (length r.now)) (record r { ghost_name = δ }) (tt, (tt, (tt, tt))) (tt, (tt, (tt, tt)))) $
-    nothing ! $ nothing ! $ fjoin ! $ nothing ! $ fjoin ! $ nothing ! $ fjoin ! $ join ! $ nothing ! $ move ! (2 ∷ 0 ∷ []) $ join ! $ join ! $ frame ! $ frame ! $ says ! long $ by ! (fact_i 𝓤 _ (emp 𝓤) is))))))))))
+    nothing ! $ nothing ! $ fjoin ! $ nothing ! $ fjoin ! $ nothing ! $ fjoin ! $ join ! $ nothing ! $ move ! (2 ∷ 0 ∷ []) $ join ! $ join ! $ frame ! $
+    frame ! $ says ! long $ by ! (fact_i 𝓤 _ (emp 𝓤) is))))))))))

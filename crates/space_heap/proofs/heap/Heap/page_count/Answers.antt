@@ -1,7 +1,7 @@
 use Rattle.std.proofs.Common.{subst}
 use Rattle.space_heap.specs.SoundHeap.{IsSoundHeap}
 use Rattle.space_heap.specs.Inside.{rest_of}
-use Rattle.space_heap.proofs.SoundViews.{sound_read}
+use Rattle.space_heap.proofs.fields.SoundViews.{sound_read}
 use Rattle.space_heap.proofs.heap.Heap.page_count.Goals as goal
 
 pub returns-clause-sound : goal.returns-clause-sound

@@ -1,5 +1,5 @@
 use Rattle.space_heap.specs.Inside.{view_from}
-use Rattle.space_heap.proofs.SettledSlots.{coherent_phase}
+use Rattle.space_heap.proofs.updates.SettledSlots.{coherent_phase}
 use Rattle.space_heap.proofs.heap.Heap.set_phase.Goals as goal
 
 pub invariant_of-self : goal.invariant_of-self

@@ -8,7 +8,7 @@ use Rattle.space_heap.specs.Marking.{IsCoherent}
 use Rattle.space_heap.specs.Sweeping.{settled, phase_with, pooled_pages}
 use Rattle.space_heap.specs.Inside.{view_with, view_from, rest_of}
 use Rattle.space_heap.proofs.SettledLaws.{coherent_settled}
-use Rattle.space_heap.proofs.SettledSlots.{settled_all, settled_view, some_phase, none_phase}
+use Rattle.space_heap.proofs.updates.SettledSlots.{settled_all, settled_view, some_phase, none_phase}
 use Rattle.space_heap.proofs.heap.Heap.settle.Goals as goal
 
 -- the fields after the verdict
@@ -26,8 +26,12 @@ phase c =
     let h = c.self.inside in
     let some = c.hold_pages-some.result in
     c.phase_after-self-inside.ensures ∙ ⊎_elim
-    (λ e. let k = c.hold_pages-some.ensures.some e in cond-true some Sweeping Idle e ∙ some_phase h.pools c.hold_pages-some.new.pools h.marks.items c.settle_pages.new.marks.items c.hold_pages-some.ensures.held c.settle_pages.ensures.len c.settle_pages.ensures.each c.self.invariant.marks (rest_of h) c.args.kind k.0 k.1)
-    (λ e. cond-false some Sweeping Idle e ∙ none_phase h.pools c.hold_pages-some.new.pools h.marks.items c.settle_pages.new.marks.items c.hold_pages-some.ensures.held c.settle_pages.ensures.len c.settle_pages.ensures.each c.self.invariant.marks (rest_of h) c.args.kind (c.hold_pages-some.ensures.none e))
+    (λ e. let k = c.hold_pages-some.ensures.some e in cond-true some Sweeping Idle e
+    ∙ some_phase h.pools c.hold_pages-some.new.pools h.marks.items c.settle_pages.new.marks.items c.hold_pages-some.ensures.held
+    c.settle_pages.ensures.len c.settle_pages.ensures.each c.self.invariant.marks (rest_of h) c.args.kind k.0 k.1)
+    (λ e. cond-false some Sweeping Idle e ∙ none_phase h.pools c.hold_pages-some.new.pools h.marks.items c.settle_pages.new.marks.items
+    c.hold_pages-some.ensures.held c.settle_pages.ensures.len c.settle_pages.ensures.each c.self.invariant.marks (rest_of h) c.args.kind
+    (c.hold_pages-some.ensures.none e))
     (cases_Bool some)
 
 view : (c : goal.After-self-3-1) → view_from (after c) ≡ settled (view_from c.self.inside) c.args.kind
@@ -38,7 +42,8 @@ view c =
       phase = c.phase_after-self-inside.result;
       counters = record rest.counters { minor_verdicts = c.count_minor-self-inside.ensures i; other_verdicts = c.count_other-self-inside.ensures i };
     }))
-    ∙ settled_view h.pools c.hold_pages-some.new.pools h.marks.items c.settle_pages.new.marks.items c.hold_pages-some.ensures.held c.settle_pages.ensures.len c.settle_pages.ensures.each c.self.invariant.marks rest c.args.kind c.phase_after-self-inside.result (phase c)
+    ∙ settled_view h.pools c.hold_pages-some.new.pools h.marks.items c.settle_pages.new.marks.items c.hold_pages-some.ensures.held c.settle_pages.ensures.len
+    c.settle_pages.ensures.each c.self.invariant.marks rest c.args.kind c.phase_after-self-inside.result (phase c)
 
 pub invariant_of-self : goal.invariant_of-self
 invariant_of-self c =
@@ -46,8 +51,10 @@ invariant_of-self c =
     let held = c.hold_pages-some.ensures.held in
     let none : (view_from h).grey ≡ [] = ap (λ (v : HeapView). v.grey) c.self.view_is ∙ c.requires.none_grey in
     record {
-      marks = settled_all h.pools c.hold_pages-some.new.pools h.marks.items c.settle_pages.new.marks.items held c.settle_pages.ensures.len c.settle_pages.ensures.each c.self.invariant.marks;
-      room = subst (λ n. n ≤ vec_capacity c.settle_pages.new.marks) (sym held.limit) (subst (λ n. h.pools.limit ≤ n) (sym c.settle_pages.ensures.room) c.self.invariant.room);
+      marks = settled_all h.pools c.hold_pages-some.new.pools h.marks.items c.settle_pages.new.marks.items held c.settle_pages.ensures.len
+          c.settle_pages.ensures.each c.self.invariant.marks;
+      room = subst (λ n. n ≤ vec_capacity c.settle_pages.new.marks) (sym held.limit)
+          (subst (λ n. h.pools.limit ≤ n) (sym c.settle_pages.ensures.room) c.self.invariant.room);
       places = subst (λ n. 1638 * n ≤ vec_capacity h.grey) (sym held.count) c.self.invariant.places;
       coherent = subst IsCoherent (sym (view c)) (coherent_settled (view_from h) c.args.kind none c.self.invariant.coherent);
     }

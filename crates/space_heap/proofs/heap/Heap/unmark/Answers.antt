@@ -1,13 +1,14 @@
 use Rattle.std.proofs.Common.{◌≡◌, map, sym, ap, ◌∙◌, subst, arith}
 use Rattle.space_heap.specs.Marking.{unmarked, IsCoherent}
-use Rattle.space_heap.specs.PaintedMarks.{unmarked_marks}
+use Rattle.space_heap.specs.planes.RecolouredMarks.{unmarked_marks}
 use Rattle.space_heap.specs.Inside.{AreAllMarks, view_from, view_with, rest_of}
 use Rattle.space_heap.proofs.Coherence.{coherent_unmarked}
-use Rattle.space_heap.proofs.UnmarkedSlots.{unmarked_view, unmarked_all}
+use Rattle.space_heap.proofs.updates.UnmarkedSlots.{unmarked_view, unmarked_all}
 use Rattle.space_heap.proofs.heap.Heap.unmark.Goals as goal
 
 -- the view without marks
-view : (c : goal.After-clear) → view_with c.self.inside.pools c.unmark_pages.new.marks.items (record (rest_of c.self.inside) { grey = c.clear.new.self.items }) ≡ unmarked (view_from c.self.inside)
+view : (c : goal.After-clear) → view_with c.self.inside.pools c.unmark_pages.new.marks.items
+    (record (rest_of c.self.inside) { grey = c.clear.new.self.items }) ≡ unmarked (view_from c.self.inside)
 view c =
     let h = c.self.inside in
     ap (λ ms. view_with h.pools ms (record (rest_of h) { grey = c.clear.new.self.items })) c.unmark_pages.ensures.items

@@ -1,5 +1,5 @@
 use Rattle.std.proofs.Common.{◌≡◌, ℕ, ◌<◌, ◌≤◌, ◌-◌, false, length}
-use Rattle.space_heap.specs.MarkPlanes.{is_present}
+use Rattle.space_heap.specs.planes.MarkPlanes.{is_present}
 use Rattle.space_heap.proofs.marks.Marks.first_present.Given as goal
 
 abbrev pub invariant-slots : goal.invariant-slots

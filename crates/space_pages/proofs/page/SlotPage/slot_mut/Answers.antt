@@ -9,7 +9,8 @@ returns c =
       (refl, λ w. rw (← c.self.view_is, ← start) (lent old.len c.slot_start-start.result old.items w old.ok.0)),
       record {
         writes_back = tt;
-        words = rw (← c.self.view_is, ← start, ← c.slot_len.ensures, c.slice_mut.ensures.value) (range_is old.items c.slot_start-start.result c.slot_len.result _ refl);
+        words = rw (← c.self.view_is, ← start, ← c.slot_len.ensures, c.slice_mut.ensures.value)
+            (range_is old.items c.slot_start-start.result c.slot_len.result _ refl);
         len = c.slice_mut.ensures.len ∙ omega arith;
       },
     )

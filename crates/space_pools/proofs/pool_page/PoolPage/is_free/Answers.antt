@@ -10,5 +10,6 @@ returns-then-s-len c = rw (← c.self.view_is) (c.get.ensures ∙ sym (free_is c
 
 pub returns-else-s-len : goal.returns-else-s-len
 returns-else-s-len c =
-    let none : free_in c.args.self.now c.args.s ≡ false = rw (← c.self.view_is) (free_is c.self.inside c.args.s ∙ get_or_past c.self.inside.free c.args.s false (omega arith)) in
+    let none : free_in c.args.self.now c.args.s ≡ false =
+    rw (← c.self.view_is) (free_is c.self.inside c.args.s ∙ get_or_past c.self.inside.free c.args.s false (omega arith)) in
     grind (arith, nat_tests, none)

@@ -1,4 +1,4 @@
-use Rattle.std.proofs.Common.{◌≡◌, ℕ, ◌<◌, ◌≤◌, false, length, sym, ap, ◌∙◌, subst, arith}
+use Rattle.std.proofs.Common.{◌≡◌, ℕ, ◌<◌, ◌≤◌, false, length, refl, sym, ap, ◌∙◌, subst, arith}
 use Rattle.space_pools.specs.PageSlots.{PageSlots, HasEachFree, count_of, freed_in}
 use Rattle.space_planes.specs.Planes.{bit}
 use Rattle.space_pools.specs.Links.{slot_on, AreLinked}
@@ -9,16 +9,42 @@ use Rattle.space_pools.proofs.pool_page.PoolPage.set_free.Goals as goal
 
 pub put_links-requires-clause-slots : goal.put_links-requires-clause-slots
 put_links-requires-clause-slots c =
-    c.requires.len ∙ sym (ap (λ (p : PageSlots). length p.slots) c.self.view_is) ∙ length-slots c.self.inside ∙ c.self.invariant.long ∙ ap count_of c.known.ensures
+    c.requires.len ∙ sym (ap (λ (p : PageSlots). length p.slots) c.self.view_is) ∙ length-slots c.self.inside ∙ c.self.invariant.long
+    ∙ ap count_of c.known.ensures
 
 pub copy_from-requires : goal.copy_from-requires
 copy_from-requires c = c.requires.len ∙ sym (ap (λ (p : PageSlots). length p.slots) c.self.view_is) ∙ length-slots c.self.inside
 
+-- where no further slot is free only the wait for a sweep ends
 pub invariant_of-self : goal.invariant_of-self
 invariant_of-self c =
+    let h = c.self.invariant in
+    record {
+      whole = h.whole;
+      known = h.known;
+      long = h.long;
+      within = h.within;
+      clear_below = h.clear_below;
+      set_at = h.set_at;
+      linked =
+          h.linked;
+      clear_past = h.clear_past;
+    }
+
+pub returns-then-is_same : goal.returns-then-is_same
+returns-then-is_same c =
+    let p = c.self.inside in
+    let same : c.args.free.now ≡ p.free = c.is_same.ensures.0 c.if-is_same.true in
+    let each : HasEachFree (page_from p) p.free = subst (HasEachFree (page_from p)) same
+    (subst (λ p. HasEachFree p c.args.free.now) (sym c.self.view_is) c.requires.each) in
+    freed p p.words p.free p.lowest refl each (λ k h clear. refl) ∙ ap (freed_in (page_from p)) (sym same) ∙ ap (λ p. freed_in p c.args.free.now) c.self.view_is
+
+pub invariant_of-self-2 : goal.invariant_of-self-2
+invariant_of-self-2 c =
     let free = c.args.free.now in
     let words = c.put_links.new.words in
-    let long : length free ≡ length c.self.inside.free = c.requires.len ∙ sym (ap (λ (p : PageSlots). length p.slots) c.self.view_is) ∙ length-slots c.self.inside in
+    let long : length free ≡ length c.self.inside.free = c.requires.len ∙ sym (ap (λ (p : PageSlots). length p.slots) c.self.view_is)
+    ∙ length-slots c.self.inside in
     let is = c.copy_from.ensures in
     let first = c.free_from-self-inside.ensures in
     record {

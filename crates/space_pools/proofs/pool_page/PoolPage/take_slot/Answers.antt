@@ -7,19 +7,21 @@ use Rattle.space_pools.specs.declared.pool_page.PoolPage.TheInside.{Inside}
 use Rattle.space_pools.specs.PageSlots.{free_in}
 use Rattle.space_pools.specs.Links.{slot_on, AreLinked}
 use Rattle.space_pools.proofs.Pages.{free_is, few_slots, one_slot, long_slot}
-use Rattle.space_pools.proofs.Linked.{linked_after_birth}
+use Rattle.space_pools.proofs.Linked.{linked_after_take}
 use Rattle.space_pools.proofs.pool_page.PoolPage.take_slot.Goals as goal
 
 pub overflow_add-s : goal.overflow_add-s
 overflow_add-s c =
-    let set : bit c.self.inside.free c.args.s ≡ true = sym (free_is c.self.inside c.args.s) ∙ ap (λ q. free_in q c.args.s) c.self.view_is ∙ c.requires.is_free in
+    let set : bit c.self.inside.free c.args.s ≡ true = sym (free_is c.self.inside c.args.s) ∙ ap (λ q. free_in q c.args.s) c.self.view_is
+    ∙ c.requires.is_free in
     let inside = within_from_bit c.self.inside.free c.args.s set in
     let few = few_slots c.self.inside c.self.invariant in
     omega arith
 
 pub free_from-self-inside-requires : goal.free_from-self-inside-requires
 free_from-self-inside-requires c =
-    let set : bit c.self.inside.free c.args.s ≡ true = sym (free_is c.self.inside c.args.s) ∙ ap (λ q. free_in q c.args.s) c.self.view_is ∙ c.requires.is_free in
+    let set : bit c.self.inside.free c.args.s ≡ true = sym (free_is c.self.inside c.args.s) ∙ ap (λ q. free_in q c.args.s) c.self.view_is
+    ∙ c.requires.is_free in
     let inside = within_from_bit c.self.inside.free c.args.s set in
     omega arith
 
@@ -27,7 +29,14 @@ pub clear-requires : goal.clear-requires
 clear-requires c = omega arith
 
 abbrev after : goal.After-clear → Inside
-after c = record { words = c.self.inside.words; pool = c.self.inside.pool; free = c.clear.new.self; lowest = c.free_from-self-inside.result; unswept = c.self.inside.unswept }
+after c = record {
+  words = c.self.inside.words;
+  pool = c.self.inside.pool;
+  free = c.clear.new.self;
+  lowest = c.free_from-self-inside.result;
+  unswept =
+      c.self.inside.unswept;
+}
 
 pub invariant_of-self : goal.invariant_of-self
 invariant_of-self c =
@@ -50,7 +59,9 @@ invariant_of-self c =
           (cases_lt k s))
           (cases_eq k s);
       linked = subst (λ plane. AreLinked c.self.inside.pool c.self.inside.words plane) (sym c.clear.ensures)
-          (linked_after_birth free s (sym (free_is c.self.inside s) ∙ ap (λ q. free_in q s) c.self.view_is ∙ c.requires.is_free) (λ k h. sym (free_is c.self.inside k) ∙ ap (λ q. free_in q k) c.self.view_is ∙ c.requires.below k h) c.self.inside.pool c.self.inside.words c.self.invariant.linked);
+          (linked_after_take free s (sym (free_is c.self.inside s) ∙ ap (λ q. free_in q s) c.self.view_is ∙ c.requires.is_free)
+          (λ k h. sym (free_is c.self.inside k) ∙ ap (λ q. free_in q k) c.self.view_is ∙ c.requires.below k h) c.self.inside.pool c.self.inside.words
+          c.self.invariant.linked);
       set_at = λ h. is c.free_from-self-inside.result ∙ bit-set_other free s c.free_from-self-inside.result false (λ e. omega arith) ∙ next.set (omega arith);
     }
 

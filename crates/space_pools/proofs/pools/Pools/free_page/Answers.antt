@@ -11,8 +11,10 @@ pub invariant_of-self : goal.invariant_of-self
 invariant_of-self c =
     let v = view_from c.self.inside in
     let here : c.args.page < length v.pages = subst (λ (v : PoolsView). c.args.page < length v.pages) (sym c.self.view_is) c.requires.there in
-    let its : pool_at v c.args.page ≡ Some c.in-Some.pool = ap (λ (v : PoolsView). pool_at v c.args.page) c.self.view_is ∙ sym c.page_pool.ensures ∙ c.in-Some.is in
-    let read : c.index_mut.result.now ≡ page_at v c.args.page = get_or_read v.pages c.args.page c.index_mut.result.now here c.index_mut.ensures.value spare_page in
+    let its : pool_at v c.args.page ≡ Some c.in-Some.pool = ap (λ (v : PoolsView). pool_at v c.args.page) c.self.view_is ∙ sym c.page_pool.ensures.pool
+    ∙ c.in-Some.is in
+    let read : c.index_mut.result.now ≡ page_at v c.args.page =
+    get_or_read v.pages c.args.page c.index_mut.result.now here c.index_mut.ensures.value spare_page in
     let cursor : ℕ = get_or c.self.inside.cursors c.in-Some.pool 0 in
     let five : c.in-Some.pool < 5 = (c.self.invariant.sound.sound c.args.page).known c.in-Some.pool its in
     let least = c.min.ensures in

@@ -8,7 +8,7 @@ use Rattle.space_pools.proofs.pools.Pools.make_page.Goals as goal
 pub returns-clause-made : goal.returns-clause-made
 returns-clause-made c =
     let v = view_from c.self.inside in
-    let pushed : c.push.new.self.items ≡ v.pages ++ free_page c.args.pool ∷ [] = search rules in
+    let pushed : c.push_reserved.new.self.items ≡ v.pages ++ free_page c.args.pool ∷ [] = search rules in
     ap (λ pages. record v { pages = pages }) pushed
     ∙ sym (next_page v c.args.pool)
     ∙ ap (λ v. with_free_page v (length v.pages) c.args.pool) c.self.view_is

@@ -1,0 +1,11 @@
+-- What each call makes of the fields, and of the view.
+pub mod WordLaws
+pub mod Changes
+pub mod Writes
+pub mod TakenSlots
+pub mod Placed
+pub mod PageAllocations
+pub mod RecolouredSlots
+pub mod UnmarkedSlots
+pub mod SettledSlots
+pub mod SweptSlots

@@ -1,0 +1,2 @@
+-- Walks over what stands at addresses.
+pub mod SlotWalks

@@ -1,0 +1,161 @@
+-- The walk over what stands at addresses, by the planes of each page.
+use Rattle.std.proofs.Common.{◌≡◌, ⊎_elim, ℕ, ◌-◌, ◌/◌, ◌<◌, ◌≤◌, ◌↔◌, Bool, true, false, not, ◌&&◌, List, length, sym, ap, ◌∙◌, subst, arith, None, Some}
+use Rattle.std.proofs.lemmas.Bool.{cases_Bool, cases_lt, and_parts}
+use Rattle.std.proofs.lemmas.List.{get_or_past}
+use Rattle.std.proofs.Math.Nat.{mul-le-mul_left}
+use Rattle.space_model.specs.Layout.{page_of, page_slots, slot_address, slot_bytes}
+use Rattle.space_planes.specs.Planes.{bit}
+use Rattle.space_planes.proofs.Bits.{within_from_bit}
+use Rattle.space_pools.specs.PageSlots.{PageSlots}
+use Rattle.space_pools.specs.PoolsView.{PoolsView, page_at, pool_at, found_at}
+use Rattle.space_pools.specs.Sound.{IsSoundPools}
+use Rattle.space_pools.proofs.Places as places
+use Rattle.space_heap.specs.declared.marks.Marks.{Marks}
+use Rattle.space_heap.specs.declared.marks.Sought.{Sought}
+use Rattle.space_heap.specs.declared.marks.Sought.TheVariants.{Present, Gone}
+use Rattle.space_heap.specs.Slots.{has_present}
+use Rattle.space_heap.specs.HeapView.{PageView, HeapView, no_page, slot_number, is_start, is_slot}
+use Rattle.space_heap.specs.Objects.{is_occupied, is_object, object_of}
+use Rattle.space_heap.specs.planes.MarkPlanes.{marks_at}
+use Rattle.space_heap.specs.Sweeping.{has_gone}
+use Rattle.space_heap.specs.Walks.{HasNoneFrom, IsNext, HasNoneOn, IsNextOn, is_sought_in, is_sought}
+use Rattle.space_heap.specs.Inside.{Rest, view_with, AreMarksOf, AreAllMarks}
+use Rattle.space_heap.specs.words.SlotPlaces.{is_slot_of, IsSlotAt}
+use Rattle.space_heap.proofs.starts.Starts.{Start, start_parts, start_address, no_start_past}
+use Rattle.space_heap.proofs.Laws.{slot_at_none}
+use Rattle.space_heap.proofs.starts.PoolStarts.{none_spare}
+use Rattle.space_heap.proofs.fields.Views.{slot_at_read}
+use Rattle.space_heap.proofs.fields.Readers.{slot_within, none_occupied, none_object, is_object_read}
+use Rattle.space_heap.proofs.updates.SweptSlots.{gone_from}
+use Rattle.space_heap.proofs.fields.FreeReads.{free_place}
+
+-- `named` tells it of addresses, and `held` of the slots of the page
+module _ (v : PoolsView) (page pool start from : ℕ) (named held : ℕ → Bool) (sound : IsSoundPools v)
+    (none : (a : ℕ) → is_slot_of v a ≡ false → named a ≡ false) (read : (a slot : ℕ) → IsSlotAt v a page slot → named a ≡ held slot)
+    (its : pool_at v page ≡ Some pool) (known : pool < 5) (first : (k : ℕ) → k < page_slots pool → (start ≤ k) ↔ (from ≤ slot_address page pool k)) where
+  at_slot : (a : ℕ) → page_of a ≡ page → is_slot_of v a ≡ true → IsSlotAt v a page (slot_number (Some pool) a)
+  at_slot a on is = record { is = is; on_page = sym on; in_slot = ap (λ o. slot_number o a) (sym (ap (pool_at v) on ∙ its)) }
+
+  address_is : (a : ℕ) → page_of a ≡ page → is_slot_of v a ≡ true → a ≡ slot_address page pool (slot_number (Some pool) a)
+  unfolding is_slot_of
+  address_is a on is =
+      let s = start_parts (pool_at v (page_of a)) (length (page_at v (page_of a)).slots) a is in
+      start_address pool (length (page_at v (page_of a)).slots) a (subst (λ o. Start o (length (page_at v (page_of a)).slots) a) (ap (pool_at v) on ∙ its) s)
+      ∙ ap (λ k. slot_address k pool (slot_number (Some pool) a)) on
+
+  few : (a : ℕ) → page_of a ≡ page → is_slot_of v a ≡ true → slot_number (Some pool) a < page_slots pool
+  few a on is = places.slot_within v pool page (slot_number (Some pool) a) sound its (slot_within v a page (slot_number (Some pool) a) (at_slot a on is))
+
+  -- an address whose slot doesn't hold it
+  absent_at : (a : ℕ) → page_of a ≡ page → (is_slot_of v a ≡ true → held (slot_number (Some pool) a) ≡ false) → named a ≡ false
+  absent_at a on absent = ⊎_elim
+      (λ is. read a (slot_number (Some pool) a) (at_slot a on is) ∙ absent is)
+      (λ out. none a out)
+      (cases_Bool (is_slot_of v a))
+
+  from_start : (a : ℕ) → page_of a ≡ page → from ≤ a → is_slot_of v a ≡ true → start ≤ slot_number (Some pool) a
+  from_start a on there is = (first (slot_number (Some pool) a) (few a on is)).1 (subst (λ x. from ≤ x) (address_is a on is) there)
+
+  -- no slot from the start on holds it
+  clear_from : ((k : ℕ) → start ≤ k → held k ≡ false) → (a : ℕ) → page_of a ≡ page → from ≤ a → named a ≡ false
+  clear_from absent a on there = absent_at a on (λ is. absent (slot_number (Some pool) a) (from_start a on there is))
+
+  order : (s t : ℕ) → s ≤ t → slot_address page pool s ≤ slot_address page pool t
+  unfolding slot_address
+  order s t below = let o = mul-le-mul_left {m = s} {n = t} (slot_bytes pool) below in omega arith
+
+  -- of two slots the one at the lower address is the lower one
+  lower : (a s : ℕ) → page_of a ≡ page → is_slot_of v a ≡ true → a < slot_address page pool s → slot_number (Some pool) a < s
+  lower a s on is below = ⊎_elim
+      (λ l. l)
+      (λ past. let o = order s (slot_number (Some pool) a) past in let e = address_is a on is in absurd (omega arith))
+      (cases_lt (slot_number (Some pool) a) s)
+
+  -- the first slot from the start on that holds it
+  module _ (s a : ℕ) (is : a ≡ slot_address page pool s) (above : start ≤ s) (here : s < length (page_at v page).slots) (holds : held s ≡ true)
+      (before : (j : ℕ) → start ≤ j → j < s → held j ≡ false) where
+    at : IsSlotAt v a page s
+    at = free_place v pool page s a sound known its here is
+
+    pub next_here : IsNextOn named page from a
+    next_here = record {
+      on = sym at.on_page;
+      from_there = subst (λ x. from ≤ x) (sym is) ((first s (places.slot_within v pool page s sound its here)).0 above);
+      is = read a s at ∙ holds;
+      before = λ b on there below. absent_at b on (λ at.
+          before (slot_number (Some pool) b) (from_start b on there at) (lower b s on at (subst (λ x. b < x) is below)));
+    }
+
+none_sought : (v : PoolsView) (ms : List Marks) (rest : Rest) (sought : Sought) (a : ℕ) → is_slot_of v a ≡ false
+    → is_sought sought (view_with v ms rest) a ≡ false
+none_sought v ms rest Present a out = none_object v ms rest a out
+none_sought v ms rest Gone a out = ap (λ b. b && (object_of (view_with v ms rest) a).gone) (none_occupied v ms rest a out)
+
+sought_read : (v : PoolsView) (ms : List Marks) (rest : Rest) (page : ℕ) → AreAllMarks v ms → (sought : Sought) (a slot : ℕ) → IsSlotAt v a page slot
+    → is_sought sought (view_with v ms rest) a ≡ is_sought_in sought (marks_at ms page) slot
+unfolding is_occupied object_of
+sought_read v ms rest page all Present a slot at = is_object_read v ms rest a page slot all at
+sought_read v ms rest page all Gone a slot at = ap has_gone (slot_at_read v ms rest a page slot at)
+    ∙ sym (gone_from (found_at v page slot) (marks_at ms page) slot ((all.of_page page).each slot))
+
+sought_within : (p : PageSlots) (m : Marks) → AreMarksOf p m → (sought : Sought) (slot : ℕ) → is_sought_in sought m slot ≡ true → slot < length p.slots
+sought_within p m h Present slot e = let w = within_from_bit m.object slot (and_parts (bit m.object slot) (not (bit m.gone slot)) e).0 in
+    let l = h.wide.object in omega arith
+sought_within p m h Gone slot e = let w = within_from_bit m.gone slot e in let l = h.wide.gone in omega arith
+
+module _ (v : PoolsView) (ms : List Marks) (rest : Rest) (page : ℕ) (all : AreAllMarks v ms) (sound : IsSoundPools v) (sought : Sought) where
+  abbrev h : HeapView
+  h = view_with v ms rest
+
+  pub none_on_spare : (from : ℕ) → pool_at v page ≡ None → HasNoneOn (is_sought sought h) page from
+  none_on_spare from its a on there = none_sought v ms rest sought a (none_spare v a page sound (sym on) its)
+
+  module _ (pool start from : ℕ) (its : pool_at v page ≡ Some pool) (known : pool < 5)
+      (first : (k : ℕ) → k < page_slots pool → (start ≤ k) ↔ (from ≤ slot_address page pool k)) where
+    pub none_on_page : HasNoneFrom (is_sought_in sought (marks_at ms page)) start → HasNoneOn (is_sought sought h) page from
+    none_on_page absent = clear_from v page pool start from (is_sought sought h) (is_sought_in sought (marks_at ms page)) sound
+        (none_sought v ms rest sought) (sought_read v ms rest page all sought) its known first absent
+
+    pub next_on_page : (s a : ℕ) → a ≡ slot_address page pool s → IsNext (is_sought_in sought (marks_at ms page)) start s
+        → IsNextOn (is_sought sought h) page from a
+    next_on_page s a is f =
+        next_here v page pool start from (is_sought sought h) (is_sought_in sought (marks_at ms page)) sound (none_sought v ms rest sought)
+        (sought_read v ms rest page all sought) its known first s a is f.from_there
+        (sought_within (page_at v page) (marks_at ms page) (all.of_page page) sought s f.is) f.is f.before
+
+-- pages are in the order of addresses
+pub page_before : (from b page : ℕ) → page ≡ from / 65536 - 1 → from ≤ b → page_of b < page → ⊥
+unfolding page_of
+page_before from b page is there below = grind (arith, is)
+
+pub page_order : (a b : ℕ) → b < a → page_of b ≤ page_of a
+unfolding page_of
+page_order a b below = grind arith
+
+-- past the last page nothing stands
+no_slot_beyond : (v : HeapView) (a : ℕ) → length v.pages ≤ page_of a → is_slot v a ≡ false
+unfolding is_slot
+no_slot_beyond v a past = ap (λ (p : PageView). is_start p.pool (length p.slots) a) (get_or_past v.pages (page_of a) no_page past)
+    ∙ no_start_past None 0 a (omega arith)
+
+none_beyond : (v : HeapView) (sought : Sought) (a : ℕ) → length v.pages ≤ page_of a → is_sought sought v a ≡ false
+unfolding is_object is_occupied object_of
+none_beyond v Present a past = ap has_present (slot_at_none v a (no_slot_beyond v a past))
+none_beyond v Gone a past = ap has_gone (slot_at_none v a (no_slot_beyond v a past))
+
+-- after the last page
+pub none_left : (v : HeapView) (sought : Sought) (from page : ℕ) → ((b : ℕ) → from ≤ b → page_of b < page → is_sought sought v b ≡ false)
+    → length v.pages ≤ page → HasNoneFrom (is_sought sought v) from
+none_left v sought from page before past a there =
+    ⊎_elim (λ below. before a there below) (λ above. none_beyond v sought a (omega arith)) (cases_lt (page_of a) page)
+
+-- the first page with one
+pub next_found : (test : ℕ → Bool) (from page a : ℕ) → ((b : ℕ) → from ≤ b → page_of b < page → test b ≡ false) → IsNextOn test page from a → IsNext test from a
+next_found test from page a before n = record {
+  from_there = n.from_there;
+  is = n.is;
+  before = λ b there below. ⊎_elim
+      (λ lower. before b there lower)
+      (λ upper. n.before b (let o = page_order a b below in let e = n.on in omega arith) there below)
+      (cases_lt (page_of b) page);
+}

@@ -1,0 +1,58 @@
+-- The next address with a property, from an address on.
+use Rattle.std.specs.Prelude.{◌≡◌, ℕ, ◌<◌, ◌≤◌, Bool, true, false}
+use Rattle.space_model.specs.Layout.{page_of}
+use Rattle.space_planes.specs.Planes.{bit}
+use Rattle.space_heap.specs.declared.marks.Marks.{Marks}
+use Rattle.space_heap.specs.declared.marks.Sought.{Sought}
+use Rattle.space_heap.specs.declared.marks.Sought.TheVariants.{Present, Gone}
+use Rattle.space_heap.specs.planes.MarkPlanes.{is_present}
+use Rattle.space_heap.specs.HeapView.{HeapView}
+use Rattle.space_heap.specs.Objects.{is_object}
+use Rattle.space_heap.specs.Sweeping.{is_gone}
+
+-- no address from this one on passes the test
+abbrev pub HasNoneFrom : (ℕ → Bool) → ℕ → Type 0
+HasNoneFrom test from = (a : ℕ) → from ≤ a → test a ≡ false
+
+-- the least address from this one on that passes the test
+pub record IsNext (test : ℕ → Bool) (from a : ℕ) : Type 0 where
+  pub from_there : from ≤ a
+  pub is : test a ≡ true
+  pub before : (b : ℕ) → from ≤ b → b < a → test b ≡ false
+
+-- no address on the page from this one on passes the test
+abbrev pub HasNoneOn : (ℕ → Bool) → ℕ → ℕ → Type 0
+HasNoneOn test page from = (a : ℕ) → page_of a ≡ page → from ≤ a → test a ≡ false
+
+-- the least address on the page from this one on that passes the test
+pub record IsNextOn (test : ℕ → Bool) (page from a : ℕ) : Type 0 where
+  pub on : page_of a ≡ page
+  pub from_there : from ≤ a
+  pub is : test a ≡ true
+  pub before : (b : ℕ) → page_of b ≡ page → from ≤ b → b < a → test b ≡ false
+
+-- no address from this one on names an object
+abbrev pub HasNoObjectFrom : HeapView → ℕ → Type 0
+HasNoObjectFrom v from = HasNoneFrom (is_object v) from
+
+-- the least address from this one on that names an object
+abbrev pub IsNextObject : HeapView → ℕ → ℕ → Type 0
+IsNextObject v from a = IsNext (is_object v) from a
+
+-- no gone object stands from this address on
+abbrev pub HasNoGoneFrom : HeapView → ℕ → Type 0
+HasNoGoneFrom v from = HasNoneFrom (is_gone v) from
+
+-- the least address from this one on where a gone object stands
+abbrev pub IsNextGone : HeapView → ℕ → ℕ → Type 0
+IsNextGone v from a = IsNext (is_gone v) from a
+
+-- whether a slot of the page with these planes holds what is sought
+abbrev pub is_sought_in : Sought → Marks → ℕ → Bool
+is_sought_in Present m s = is_present m s
+is_sought_in Gone m s = bit m.gone s
+
+-- whether what is sought stands at the address
+abbrev pub is_sought : Sought → HeapView → ℕ → Bool
+is_sought Present v a = is_object v a
+is_sought Gone v a = is_gone v a

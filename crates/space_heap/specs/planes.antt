@@ -1,0 +1,4 @@
+-- The planes of a page, and what calls make of them.
+pub mod MarkPlanes
+pub mod RecolouredMarks
+pub mod SweptPlanes

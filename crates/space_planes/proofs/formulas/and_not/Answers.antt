@@ -1,0 +1,10 @@
+use Rattle.std.proofs.Common.{rules, ◌&&◌, not}
+use Rattle.space_planes.proofs.Zips.{zip_more}
+use Rattle.space_planes.proofs.formulas.and_not.Goals as goal
+
+pub loop-i-preserved : goal.loop-i-preserved
+loop-i-preserved c = record {
+  written = zip_more (λ left right. left && not right) c.args.left.now c.args.right.now c.loop-i.out c.loop-i.i (search rules) (search rules) (search rules)
+      c.loop-i.invariant.written;
+  long = search rules;
+}
