@@ -1,7 +1,1 @@
-pub mod Same
-pub mod Visits
-pub mod Scans
-pub mod Steps
-pub mod Bundles
-pub mod Ends
-mod Inside
+mod Wholes

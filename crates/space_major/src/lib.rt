@@ -2,7 +2,5 @@
 #![tactic(auto)]
 
 mod marking;
-mod scan;
-mod visit;
 
 pub use marking::whole;

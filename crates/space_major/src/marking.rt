@@ -4,14 +4,13 @@ ghost use Rattle.space_model.specs.Counts.{CountIs};
 ghost use Rattle.space_roots.specs.WordRoots.{root_words};
 ghost use Rattle.space_heap.specs.Objects.{object_of};
 ghost use Rattle.space_heap.specs.Marking.{colour_of};
-ghost use Rattle.space_major.specs.Graph.{IsLive, SameGraph};
-ghost use Rattle.space_major.specs.Marking.{IsMarked};
+ghost use Rattle.space_tracing.specs.Graph.{IsLive, SameGraph};
+ghost use Rattle.space_tracing.specs.Marking.{IsMarked};
 
-use crate::scan::drain;
-use crate::visit::{visit_all, visit_roots};
 use space_heap::{Colour, Heap};
 use space_model::{Ledger, Steps};
 use space_roots::{Roots, Stack};
+use space_tracing::{drain, visit_all, visit_roots};
 
 /// Marks what is reached from the roots and the stack, as a whole marking of CRuby 3.3 does: every
 /// word of the stack that names an object counts. The answer is how many objects were scanned, each in
@@ -42,8 +41,8 @@ mod tests {
     use std::sync::ledger::Blank;
     use std::test::Fail;
 
-    // Whether so many objects of one field were born.
-    fn are_born(heap: &mut Heap, count: u64) -> bool {
+    // Whether so many objects of one field were allocated.
+    fn are_allocated(heap: &mut Heap, count: u64) -> bool {
         for _ in 0..count {
             if heap.born() >= 1 << 40 || heap.place(1, Guard::Protected, Style::Keeping).is_err() {
                 return false;
@@ -53,7 +52,7 @@ mod tests {
     }
 
     // Writes the field of the object that a word names.
-    #[tactic(auto, using(crate::proofs::Inside::visiting))]
+    #[tactic(auto, using(space_heap::proofs::ObjectLaws::occupied_from_word))]
     fn write(heap: &mut Heap, word: u64, field: u64) {
         if let Some(address) = heap.object_at(word) {
             if heap.field_count(address) == 1 {
@@ -76,7 +75,7 @@ mod tests {
     }
 
     // Whether the word names an object that is black.
-    #[tactic(auto, using(crate::proofs::Inside::visiting))]
+    #[tactic(auto, using(space_heap::proofs::ObjectLaws::occupied_from_word))]
     fn is_black(heap: &Heap, word: u64) -> bool {
         match heap.object_at(word) {
             Some(address) => match heap.colour(address) {
@@ -90,7 +89,7 @@ mod tests {
     #[test]
     fn what_a_root_or_the_stack_leads_to_is_marked(rt: HostRuntime) -> Result<(), Fail> {
         let mut heap = Heap::new(rt.alloc(), 1)?;
-        assert!(rt; heap.add_page(0) == Ok(0) && are_born(&mut heap, 6));
+        assert!(rt; heap.add_page(0) == Ok(0) && are_allocated(&mut heap, 6));
         let mut roots = Roots::new(rt.alloc());
         let mut stack = Stack::new(rt.alloc());
         let Some(name) = Ident::read(b"a") else {

@@ -20,7 +20,8 @@ none_left test [] out = refl
 none_left test (x ∷ xs) out = cond-false (test x) (x ∷ filter test xs) (filter test xs) (out x) ∙ none_left test xs out
 
 -- the first number that passes comes first
-first_left : (test : ℕ → Bool) (a n x : ℕ) → a ≤ x → x < a + n → test x ≡ true → ((k : ℕ) → a ≤ k → k < x → test k ≡ false) → (xs : List ℕ) × (filter test (range_with_len a n) ≡ x ∷ xs)
+first_left : (test : ℕ → Bool) (a n x : ℕ) → a ≤ x → x < a + n → test x ≡ true → ((k : ℕ) → a ≤ k → k < x → test k ≡ false)
+    → (xs : List ℕ) × (filter test (range_with_len a n) ≡ x ∷ xs)
 first_left test a zero x above below passes out = absurd (omega arith)
 first_left test a (suc n) x above below passes out =
     let xs : List ℕ = filter test (range_with_len (a + 1) n) in
@@ -40,16 +41,19 @@ pub none_waits : (v : HeapView) → IsSoundHeap v → ((page : ℕ) → 0 ≤ pa
 none_waits v sound none = sound.waiting ∙ none_left (is_unswept v) (range_with_len 0 (length v.pages)) (λ k. none k (omega arith))
 
 -- what is found from page 0 on is the first page that waits
-pub first_or_none : (v : HeapView) (found : Option ℕ) → IsSoundHeap v → MatchOption found ((page : ℕ) → 0 ≤ page → is_unswept v page ≡ false) (IsNextUnswept v 0) → MatchOption found (v.unswept ≡ []) (IsFirstUnswept v)
+pub first_or_none : (v : HeapView) (found : Option ℕ) → IsSoundHeap v
+    → MatchOption found ((page : ℕ) → 0 ≤ page → is_unswept v page ≡ false) (IsNextUnswept v 0) → MatchOption found (v.unswept ≡ []) (IsFirstUnswept v)
 first_or_none v None sound none = none_waits v sound none
 first_or_none v (Some page) sound next = first_is v page sound next
 
 -- where none below a page waits, and none from it on, none waits
-pub none_from : (v : HeapView) (from : ℕ) → IsSoundHeap v → ((page : ℕ) → page < from → is_unswept v page ≡ false) → ((page : ℕ) → from ≤ page → is_unswept v page ≡ false) → v.unswept ≡ []
+pub none_from : (v : HeapView) (from : ℕ) → IsSoundHeap v → ((page : ℕ) → page < from → is_unswept v page ≡ false)
+    → ((page : ℕ) → from ≤ page → is_unswept v page ≡ false) → v.unswept ≡ []
 none_from v from sound below above = none_waits v sound (λ page z. ⊎_elim (λ b. below page b) (λ a. above page a) (cases_lt page from))
 
 -- where none below a page waits, the next one from it on that waits is the first
-pub first_from : (v : HeapView) (from page : ℕ) → IsSoundHeap v → ((other : ℕ) → other < from → is_unswept v other ≡ false) → IsNextUnswept v from page → IsFirstUnswept v page
+pub first_from : (v : HeapView) (from page : ℕ) → IsSoundHeap v → ((other : ℕ) → other < from → is_unswept v other ≡ false) → IsNextUnswept v from page
+    → IsFirstUnswept v page
 first_from v from page sound below next = first_is v page sound (record {
   from_there = omega arith;
   within = next.within;
@@ -81,14 +85,16 @@ pub none_before : (v : HeapView) (page : ℕ) → IsSoundHeap v → IsFirstUnswe
 none_before v page sound first other below = out_below (is_unswept v) 0 (length v.pages) page first.0 (sym sound.waiting ∙ first.1) other (omega arith) below
 
 -- after its sweep none below waits either
-pub none_before_swept : (v w : HeapView) (page : ℕ) → IsSoundHeap v → IsFirstUnswept v page → w ≡ swept v page → (other : ℕ) → other < page → is_unswept w other ≡ false
+pub none_before_swept : (v w : HeapView) (page : ℕ) → IsSoundHeap v → IsFirstUnswept v page → w ≡ swept v page → (other : ℕ) → other < page
+    → is_unswept w other ≡ false
 none_before_swept v w page sound first after other below =
     ap (λ (u : HeapView). is_unswept u other) after
     ∙ is_unswept-swept v page other
     ∙ ap (λ b. b && not (nat_eq other page)) (none_before v page sound first other below)
 
 -- one page more
-pub count_more : (test : ℕ → Bool) (n page : ℕ) → page < n → count_by test (take (page + 1) (range_with_len 0 n)) ≡ count_by test (take page (range_with_len 0 n)) + cond (test page) 1 0
+pub count_more : (test : ℕ → Bool) (n page : ℕ) → page < n
+    → count_by test (take (page + 1) (range_with_len 0 n)) ≡ count_by test (take page (range_with_len 0 n)) + cond (test page) 1 0
 count_more test n page below =
     let xs : List ℕ = range_with_len 0 n in
     let l = length-range_with_len 0 n in
@@ -99,7 +105,8 @@ count_more test n page below =
     (cases_Bool (test page))
 
 -- after the last page
-pub count_all : (v : HeapView) (page : ℕ) → IsSoundHeap v → length v.pages ≤ page → count_by (is_unswept v) (take page (range_with_len 0 (length v.pages))) ≡ length v.unswept
+pub count_all : (v : HeapView) (page : ℕ) → IsSoundHeap v → length v.pages ≤ page
+    → count_by (is_unswept v) (take page (range_with_len 0 (length v.pages))) ≡ length v.unswept
 count_all v page sound past =
     let xs : List ℕ = range_with_len 0 (length v.pages) in
     let l = length-range_with_len 0 (length v.pages) in

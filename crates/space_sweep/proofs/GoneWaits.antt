@@ -10,9 +10,9 @@ use Rattle.space_heap.specs.HeapView.{HeapView, is_unswept}
 use Rattle.space_heap.specs.Objects.{object_of}
 use Rattle.space_heap.specs.SoundHeap.{IsSoundHeap}
 use Rattle.space_heap.specs.Sweeping.{is_gone, settled, swept, HasNoGone}
-use Rattle.space_heap.proofs.PhaseLaws.{stands-in_phase, object_of-in_phase}
-use Rattle.space_heap.proofs.SweptPages.{stands_pooled}
-use Rattle.space_heap.proofs.SettledLaws.{stands-settled, is_unswept-settled}
+use Rattle.space_heap.proofs.PhaseLaws.{is_occupied-in_phase, object_of-in_phase}
+use Rattle.space_heap.proofs.SweptPages.{occupied_pooled}
+use Rattle.space_heap.proofs.SettledLaws.{is_occupied-settled, is_unswept-settled}
 use Rattle.space_heap.proofs.SweptLaws.{is_gone-swept_same, is_gone-swept_other, is_unswept-swept}
 use Rattle.space_sweep.specs.Sweeps.{SweepsFirst}
 
@@ -21,7 +21,8 @@ abbrev pub GoneWait : HeapView → Type 0
 GoneWait v = (a : ℕ) → is_gone v a ≡ true → is_unswept v (page_of a) ≡ true
 
 pub gone_wait-settled : (v : HeapView) (kind : Kind) → IsSoundHeap v → GoneWait (settled v kind)
-gone_wait-settled v kind sound a g = is_unswept-settled v kind (page_of a) ∙ stands_pooled v a sound (sym (stands-settled v kind a) ∙ (and_parts _ _ g).0)
+gone_wait-settled v kind sound a g = is_unswept-settled v kind (page_of a)
+    ∙ occupied_pooled v a sound (sym (is_occupied-settled v kind a) ∙ (and_parts _ _ g).0)
 
 pub gone_wait-swept : (v : HeapView) (page : ℕ) → GoneWait v → GoneWait (swept v page)
 gone_wait-swept v page wait a g = ⊎_elim
@@ -34,7 +35,7 @@ gone_wait-swept v page wait a g = ⊎_elim
     (cases_eq (page_of a) page)
 
 same_phase : (v : HeapView) (phase : Phase) (a : ℕ) → is_gone (record v { phase = phase }) a ≡ is_gone v a
-same_phase v phase a = rw (stands-in_phase v phase a, object_of-in_phase v phase a) refl
+same_phase v phase a = rw (is_occupied-in_phase v phase a, object_of-in_phase v phase a) refl
 
 -- after the sweep of the first page that waits
 pub gone_wait-first : (v w : HeapView) (freed : ℕ) → SweepsFirst v w freed → GoneWait v → GoneWait w

@@ -1,3 +1,3 @@
-pub mod Counting
+pub mod Verdicts
 pub mod FirstPages
 pub mod GoneWaits

@@ -1,16 +1,11 @@
--- The gone objects of a heap, and those that a verdict takes.
+-- The objects that a verdict takes, and the next gone one.
 use Rattle.std.specs.Prelude.{◌≡◌, ℕ, true}
 use Rattle.space_heap.specs.declared.colour.Colour.TheVariants.{White}
 use Rattle.space_heap.specs.HeapView.{HeapView}
 use Rattle.space_heap.specs.Objects.{is_object, object_of}
 use Rattle.space_heap.specs.Marking.{colour_of}
-use Rattle.space_heap.specs.Sweeping.{is_gone}
-use Rattle.space_heap.specs.NextGone.{IsNextGone}
+use Rattle.space_heap.specs.Walks.{IsNextGone}
 use Rattle.space_sweep.specs.declared.gone.Dead.{Dead}
-
--- a gone object stands at the address
-abbrev pub IsGone : HeapView → ℕ → Type 0
-IsGone v a = is_gone v a ≡ true
 
 -- the address names an object that isn't marked
 abbrev pub IsUnmarked : HeapView → ℕ → Type 0

@@ -2,9 +2,10 @@
 ghost use Rattle.std.specs.Prelude.{◌≡◌, ◌↔◌, ◌<◌, ◌^◌, ℕ, [], MatchOption};
 ghost use Rattle.space_model.specs.Counts.{CountIs};
 ghost use Rattle.space_heap.specs.Objects.{object_of};
-ghost use Rattle.space_heap.specs.Sweeping.{settled, HasNoGone};
-ghost use Rattle.space_heap.specs.NextGone.{HasNoGoneFrom};
-ghost use Rattle.space_sweep.specs.Gone.{IsGone, IsUnmarked, IsNextDead};
+ghost use Rattle.space_heap.specs.SoundHeap.{IsSoundHeap};
+ghost use Rattle.space_heap.specs.Sweeping.{IsGone, settled, HasNoGone};
+ghost use Rattle.space_heap.specs.Walks.{HasNoGoneFrom};
+ghost use Rattle.space_sweep.specs.Gone.{IsUnmarked, IsNextDead};
 
 use space_heap::Heap;
 use space_model::Kind;
@@ -18,21 +19,6 @@ pub struct Dead {
     pub address: u64,
 }
 
-// How many gone objects there are.
-fn count_gone(heap: &Heap) -> u64
-    ensures { CountIs (IsGone heap.now) result }
-{
-    // For its clause `sound`: each object's address is below 2^29.
-    heap.page_count();
-    let mut from = 0;
-    let mut count = 0;
-    'gone: while let Some(address) = heap.next_gone(from) {
-        count += 1;
-        from = address + 1;
-    }
-    count
-}
-
 /// A verdict ends a marking: each object that isn't marked is gone, and each page that has a pool
 /// waits for a sweep. The answer is how many objects are gone. It takes no memory. That they are counted
 /// before the first sweep is this project's own.
@@ -44,15 +30,17 @@ pub fn verdict(heap: &mut Heap, kind: Kind) -> u64
     ensures settled { heap.new ≡ settled heap.old kind }
     ensures taken { (a : ℕ) → IsGone heap.new a ↔ IsUnmarked heap.old a }
     ensures gone { CountIs (IsGone heap.new) result }
+    ensures sound { IsSoundHeap heap.new }
 {
     heap.settle(kind);
-    count_gone(heap)
+    heap.gone_count()
 }
 
 /// The gone object that isn't swept yet with the least address not below `from`, or `None` where
 /// there is none.
 pub fn next_gone(heap: &Heap, from: u64) -> Option<Dead>
-    ensures { MatchOption result (HasNoGoneFrom heap.now from) (IsNextDead heap.now from) }
+    ensures next { MatchOption result (HasNoGoneFrom heap.now from) (IsNextDead heap.now from) }
+    ensures sound { IsSoundHeap heap.now }
 {
     match heap.next_gone(from) {
         Some(address) => Some(Dead {

@@ -1,6 +1,7 @@
 // The sweep of one page after another.
 ghost use Rattle.std.specs.Prelude.{◌≡◌, ◌≢◌, ◌<◌, ◌≤◌, ◌^◌, ℕ, true, false, [], length, MatchOption, if◌then◌else◌};
 ghost use Rattle.space_heap.specs.HeapView.{is_unswept};
+ghost use Rattle.space_heap.specs.SoundHeap.{IsSoundHeap};
 ghost use Rattle.space_sweep.specs.Sweeps.{phase_left, IsFirstUnswept, IsNextUnswept, SweepsFirst};
 
 use space_heap::Heap;
@@ -9,6 +10,7 @@ use space_model::Phase;
 /// The lowest page from `from` on that waits for a sweep, or `None` where none does.
 pub fn next_unswept(heap: &Heap, from: u32) -> Option<u32>
     ensures next { MatchOption result ((page : ℕ) → from ≤ page → is_unswept heap.now page ≡ false) (IsNextUnswept heap.now from) }
+    ensures sound { IsSoundHeap heap.now }
 {
     // No page below `from` or above the answer is looked at, so a walk over all that wait looks at each page once.
     let count = heap.page_count();
@@ -26,8 +28,6 @@ pub fn next_unswept(heap: &Heap, from: u32) -> Option<u32>
 pub fn first_unswept(heap: &Heap) -> Option<u32>
     ensures { MatchOption result (heap.now.unswept ≡ []) (IsFirstUnswept heap.now) }
 {
-    // For its clause `sound`: the pages that wait are listed in ascending order.
-    heap.page_count();
     next_unswept(heap, 0)
 }
 
@@ -55,8 +55,6 @@ fn next_phase(heap: &Heap, from: u32) -> Phase
     requires { (page : ℕ) → page < from → is_unswept heap.now page ≡ false }
     ensures { result ≡ phase_left heap.now.unswept heap.now.phase }
 {
-    // For its clause `sound`.
-    heap.page_count();
     match next_unswept(heap, from) {
         Some(_) => heap.phase(),
         None => Phase::Idle,
@@ -71,8 +69,6 @@ pub fn sweep_first(heap: &mut Heap, page: u32) -> u64
     ensures { SweepsFirst heap.old heap.new result }
 {
     // Only pages from this one on are looked at, up to the next one that waits.
-    // For the clause `sound`.
-    heap.page_count();
     let before = heap.freed();
     heap.sweep_page(page);
     let phase = next_phase(heap, page);
@@ -82,7 +78,7 @@ pub fn sweep_first(heap: &mut Heap, page: u32) -> u64
 }
 
 /// Sweeps the lowest page that waits for it, and it alone: the slots of its gone objects are free, and
-/// it is spare where no slot of it is taken then. After the last page nothing is under way. The answer
+/// it is spare where no slot of it is used then. After the last page nothing is under way. The answer
 /// is how many slots became free. It takes no memory. Sweeping page by page is CRuby 3.3's; that the
 /// lowest page comes first is this project's own.
 pub fn sweep(heap: &mut Heap) -> u64
@@ -105,15 +101,15 @@ mod tests {
     use space_model::{Guard, Kind, Style};
     use std::test::Fail;
 
-    // Whether an object was born that has so many fields.
-    fn is_born(heap: &mut Heap, fields: u64) -> bool {
+    // Whether an object was allocated that has so many fields.
+    fn is_allocated(heap: &mut Heap, fields: u64) -> bool {
         fields <= 78
             && heap.born() < 1 << 40
             && heap.place(fields, Guard::Protected, Style::Keeping).is_ok()
     }
 
     // Marks the object that a word names, where it is white.
-    #[tactic(auto, using(space_heap::proofs::ObjectLaws::stands_from_word, space_heap::proofs::ObjectLaws::object_from_word))]
+    #[tactic(auto, using(space_heap::proofs::ObjectLaws::occupied_from_word, space_heap::proofs::ObjectLaws::object_from_word))]
     fn mark(heap: &mut Heap, word: u64) {
         if let Some(address) = heap.object_at(word) {
             match heap.colour(address) {
@@ -127,7 +123,7 @@ mod tests {
     }
 
     // How many a verdict took, where nothing is grey and none is gone.
-    #[tactic(auto, using(crate::proofs::Counting::none_gone_from))]
+    #[tactic(auto, using(crate::proofs::Verdicts::none_gone_from))]
     fn take(heap: &mut Heap, kind: Kind) -> Option<u64> {
         if heap.minor_verdicts() >= 1 << 40 || heap.other_verdicts() >= 1 << 40 {
             return None;
@@ -154,7 +150,7 @@ mod tests {
         let mut heap = Heap::new(rt.alloc(), 3)?;
         assert!(rt; heap.add_page(0) == Ok(0) && heap.add_page(1) == Ok(1));
         for fields in [3, 3, 3, 8] {
-            assert!(rt; is_born(&mut heap, fields));
+            assert!(rt; is_allocated(&mut heap, fields));
         }
         mark(&mut heap, 0x10028);
         assert!(rt; take(&mut heap, Kind::Full) == Some(3));

@@ -2,24 +2,27 @@ use Rattle.std.proofs.Common.{◌≡◌, ◌++◌, [], ℕ, List, length, sym, a
 use Rattle.space_model.specs.Counts.{CountIs}
 use Rattle.space_roots.specs.WordRoots.{root_words}
 use Rattle.space_heap.specs.Marking.{unmarked}
-use Rattle.space_major.specs.Scans.{visited_all}
-use Rattle.space_major.specs.Graph.{IsLive}
-use Rattle.space_major.specs.Marking.{Marks}
-use Rattle.space_major.proofs.Same.{SameGraph-then, SameGraph-unmarked}
-use Rattle.space_major.proofs.Ends.{marks_opened, marked_whole, count_whole, not_remembered_whole, not_kept_whole}
+use Rattle.space_tracing.specs.Scans.{visited_all}
+use Rattle.space_tracing.specs.Graph.{IsLive}
+use Rattle.space_tracing.specs.Marking.{Marks}
+use Rattle.space_tracing.proofs.Same.{SameGraph-then, SameGraph-unmarked}
+use Rattle.space_major.proofs.Wholes.{marks_opened, marked_whole, count_whole, not_remembered_whole, not_kept_whole}
 use Rattle.space_major.proofs.marking.whole.Given as given
 use Rattle.space_major.proofs.marking.whole.Goals as goal
 
 -- what was done from the moment without marks on
-marks : (g : given.Over) (c : goal.After-drain g) → (done : List ℕ) × Marks (unmarked c.args.heap.now) c.drain.new.heap (root_words c.args.roots.now ++ c.args.stack.now) [] done × (length done ≡ c.drain.result)
+marks : (g : given.Over) (c : goal.After-drain g) → (done : List ℕ)
+    × Marks (unmarked c.args.heap.now) c.drain.new.heap (root_words c.args.roots.now ++ c.args.stack.now) [] done × (length done ≡ c.drain.result)
 marks g c =
     let words : List ℕ = root_words c.args.roots.now in
-    let visits = c.visit_all.ensures ∙ ap (visited_all c.visit_roots.new.heap) c.words.ensures ∙ ap (λ v. visited_all v c.args.stack.now) (c.visit_roots.ensures ∙ ap (λ v. visited_all v words) c.unmark.ensures) in
+    let visits = c.visit_all.ensures ∙ ap (visited_all c.visit_roots.new.heap) c.words.ensures
+    ∙ ap (λ v. visited_all v c.args.stack.now) (c.visit_roots.ensures ∙ ap (λ v. visited_all v words) c.unmark.ensures) in
     c.drain.ensures.goes_on (unmarked c.args.heap.now) (words ++ c.args.stack.now) [] []
     (subst (λ s. Marks (unmarked c.args.heap.now) s (words ++ c.args.stack.now) [] []) (sym visits) (marks_opened c.args.heap.now words c.args.stack.now))
 
 pub returns-clause-marked : goal.returns-clause-marked
-returns-clause-marked g c = marked_whole c.args.heap.now c.drain.new.heap (root_words c.args.roots.now) c.args.stack.now (marks g c).0 (marks g c).1.marking c.drain.ensures.none_grey
+returns-clause-marked g c = marked_whole c.args.heap.now c.drain.new.heap (root_words c.args.roots.now) c.args.stack.now (marks g c).0 (marks g c).1.marking
+    c.drain.ensures.none_grey
 
 pub returns-clause-counted : goal.returns-clause-counted
 returns-clause-counted g c =

@@ -14,14 +14,15 @@ pub sweep_page-requires-clause-unswept : goal.sweep_page-requires-clause-unswept
 sweep_page-requires-clause-unswept c = first_waits c.args.heap.now c.args.page c.requires.first
 
 pub next_phase-phase-requires : goal.next_phase-phase-requires
-next_phase-phase-requires c = none_before_swept c.args.heap.now c.sweep_page.new.self c.args.page c.page_count.ensures.sound c.requires.first c.sweep_page.ensures
+next_phase-phase-requires c = none_before_swept c.args.heap.now c.sweep_page.new.self c.args.page c.sweep_page.ensures.sound c.requires.first
+    c.sweep_page.ensures.swept
 
 -- the counter after the sweep
 counter : (c : goal.After-freed-after) → c.freed-after.result ≡ c.freed-before.result + count_by has_gone (page_at c.args.heap.now c.args.page).slots
 counter c =
     c.freed-after.ensures
     ∙ ap (λ (v : HeapView). v.counters.freed) (c.set_phase.ensures)
-    ∙ ap (λ (v : HeapView). v.counters.freed) (c.sweep_page.ensures)
+    ∙ ap (λ (v : HeapView). v.counters.freed) (c.sweep_page.ensures.swept)
     ∙ ap (λ (n : Counters). n.freed) (counters-swept c.args.heap.now c.args.page)
     ∙ ap (λ n. n + count_by has_gone (page_at c.args.heap.now c.args.page).slots) (sym c.freed-before.ensures)
 
@@ -43,7 +44,9 @@ returns c =
       after =
           c.set_phase.ensures
           ∙ ap (λ p. record c.sweep_page.new.self { phase = p }) c.next_phase-phase.ensures
-          ∙ ap (λ (u : HeapView). record u { phase = phase_left u.unswept u.phase }) c.sweep_page.ensures
-          ∙ (λ i. record (swept v page) { phase = phase_left (unswept-swept_first v page c.page_count.ensures.sound first.0 first.1 i) (phase-swept v page i) });
-      count = subst (CountIs (IsGoneOn v page)) same (gone_on_page v page c.page_count.ensures.sound);
+          ∙ ap (λ (u : HeapView). record u { phase = phase_left u.unswept u.phase }) c.sweep_page.ensures.swept
+          ∙ (λ i. record (swept v page) {
+            phase = phase_left (unswept-swept_first v page c.sweep_page.ensures.sound first.0 first.1 i) (phase-swept v page i);
+          });
+      count = subst (CountIs (IsGoneOn v page)) same (gone_on_page v page c.sweep_page.ensures.sound);
     }

@@ -1,0 +1,8 @@
+//! Tracing: visits of words, scans of objects, and the drain of the mark stack.
+#![tactic(auto)]
+
+mod scanning;
+mod visiting;
+
+pub use scanning::{drain, scan};
+pub use visiting::{visit_all, visit_roots};
