@@ -1,95 +1,62 @@
--- How many pages wait for a sweep, and what a heap is after all of them were swept.
-use Rattle.std.proofs.Common.{◌≡◌, ℕ, ◌+◌, ◌*◌, ◌≤◌, true, false, true≢false, [], length, nat_eq, sym, ap, ◌∙◌, arith, ⊎_elim}
-use Rattle.std.specs.Prelude.{count_by, is_some}
+-- Page after page is swept until none waits.
+use Rattle.std.proofs.Common.{◌≡◌, ℕ, zero, suc, ◌+◌, ◌≤◌, ◌∙◌, [], length, map, refl, sym, ap, subst, arith}
+use Rattle.std.specs.Prelude.{count_by}
 use Rattle.std.specs.List.{range_with_len}
-use Rattle.std.specs.Set.{is_member}
-use Rattle.std.proofs.lemmas.Bool.{cases_Bool, and_parts, not-true}
 use Rattle.std.proofs.lemmas.List.FromFn.{length-range_with_len}
 use Rattle.std.proofs.lemmas.List.Sums.{length-filter, count_by-le-length}
-use Rattle.space_model.specs.declared.event.Kind.{Kind}
-use Rattle.space_model.specs.declared.event.Kind.TheVariants.{Full}
-use Rattle.space_model.specs.declared.phase.Phase.TheVariants.{Idle}
-use Rattle.space_model.specs.Layout.{page_of}
-use Rattle.space_heap.specs.HeapView.{Counters, HeapView, pool_at, is_unswept}
-use Rattle.space_heap.specs.Objects.{stands, is_object, object_of, HasNoMoved}
+use Rattle.space_model.specs.Layout.{most_pages}
+use Rattle.space_heap.specs.HeapView.{Counters, HeapView, is_unswept}
 use Rattle.space_heap.specs.SoundHeap.{IsSoundHeap}
-use Rattle.space_heap.specs.Sweeping.{phase_with, settled, HasNoGone}
-use Rattle.space_heap.proofs.FreeLaws.{is_moved-settled}
-use Rattle.space_heap.proofs.ObjectLaws.{is_object_is}
-use Rattle.space_heap.proofs.SettledLaws.{pool_at-settled, is_unswept-settled, unswept-settled, phase-settled, counters-settled, count-settled, limit-settled}
-use Rattle.space_heap.proofs.SweptPages.{stands_pooled}
-use Rattle.space_major.specs.Graph.{SameGraph}
-use Rattle.space_collector.specs.AllSwept.{AreSwept, AreAllSwept}
-use Rattle.space_collector.specs.Tidy.{IsTidy, IsOneVerdict}
+use Rattle.space_heap.specs.Sweeping.{HasNoGone}
+use Rattle.space_sweep.specs.Sweeps.{SweepsFirst}
+use Rattle.space_collector.specs.GoneNames.{gone_names, name_at}
+use Rattle.space_collector.specs.PagesSwept.{SweepsPages, SweepsAll}
+use Rattle.space_collector.proofs.GoneLists.{none_gone_below}
+use Rattle.space_collector.proofs.PageSweeps.{counters-first}
+use Rattle.space_collector.proofs.SoundSweeps.{sound-first}
 
 -- no more pages wait than there may be
-pub unswept_most : (v : HeapView) → IsSoundHeap v → length v.unswept ≤ 4096
+pub unswept_most : (v : HeapView) → IsSoundHeap v → length v.unswept ≤ most_pages
 unswept_most v sound =
-    let many : length v.unswept ≡ count_by (is_unswept v) (range_with_len 0 (length v.pages)) = ap length sound.waiting ∙ length-filter (is_unswept v) (range_with_len 0 (length v.pages)) in
+    let many : length v.unswept ≡ count_by (is_unswept v) (range_with_len 0 (length v.pages)) =
+    ap length sound.waiting ∙ length-filter (is_unswept v) (range_with_len 0 (length v.pages)) in
     let few = count_by-le-length (is_unswept v) (range_with_len 0 (length v.pages)) in
     let long = length-range_with_len 0 (length v.pages) in
     let limited = sound.limited in
     let most = sound.most in
     omega arith
 
--- the counter of freed slots stays small
-pub freed_few : (w z : HeapView) → IsSoundHeap w → AreSwept w z → z.counters.freed ≤ w.counters.freed + 1638 * 4096
-freed_few w z sound h = let most = unswept_most w sound in let f = h.freed in omega arith
+-- one page more
+pub sweeps_more : (pages : ℕ) (v w z : HeapView) (freed : ℕ) → SweepsPages pages v w → SweepsFirst w z freed → SweepsPages (pages + 1) v z
+sweeps_more zero v w z freed same s = (freed, z, subst (λ (w : HeapView). SweepsFirst w z freed) same s, refl)
+sweeps_more (suc pages) v w z freed (now, mid, first, then) s =
+    let n : suc pages + 1 ≡ suc (pages + 1) = omega arith in
+    subst (λ k. SweepsPages k v z) (sym n) (now, mid, first, sweeps_more pages mid w z freed then s)
 
-module _ (w z : HeapView) (h : AreAllSwept w z) (sound : IsSoundHeap w) (all_wait : (page : ℕ) → is_some (pool_at w page) ≡ true → is_unswept w page ≡ true) where
-  waits_not : (page : ℕ) → is_unswept z page ≡ false
-  waits_not page = ap (λ pages. is_member nat_eq pages page) h.none_waits
+-- all pages that waited, where so many were swept and none waits
+pub sweeps_all : (pages : ℕ) (v w : HeapView) → SweepsPages pages v w → pages + length w.unswept ≡ length v.unswept → w.unswept ≡ [] → SweepsAll v w
+sweeps_all pages v w swept many none =
+    let left : length w.unswept ≡ 0 = ap length none in
+    let n : pages ≡ length v.unswept = omega arith in
+    subst (λ k. SweepsPages k v w) n swept
 
-  -- what stands is an object that isn't gone
-  still_object : (a : ℕ) → stands z a ≡ true → is_object w a ≡ true
-  still_object a e = ⊎_elim
-      (λ t. sym (h.swept.swept a t (waits_not (page_of a))) ∙ e)
-      (λ f. absurd (true≢false (sym (all_wait (page_of a) (stands_pooled w a sound (sym (h.swept.waits a (waits_not (page_of a) ∙ sym f)) ∙ e))) ∙ f)))
-      (cases_Bool (is_unswept w (page_of a)))
+-- where none is gone there are no names
+pub no_names : (v : HeapView) → HasNoGone v → length (gone_names v) ≡ 0
+no_names v none = ap (λ xs. length (map (name_at v) xs)) (none_gone_below v none)
 
-  none_gone_left : HasNoGone z
-  none_gone_left a e = not-true (object_of z a).gone (and_parts _ _ (sym (is_object_is z a) ∙ h.swept.objects a ∙ still_object a e)).1
+-- a part of the heap that no sweep of a page changes
+pub sweeps_keep : {X : Type 0} (f : HeapView → X) (pages : ℕ) (v w : HeapView) → ((v w : HeapView) (freed : ℕ) → SweepsFirst v w freed → f w ≡ f v) →
+    SweepsPages pages v w → f w ≡ f v
+sweeps_keep f zero v w each same = ap f same
+sweeps_keep f (suc pages) v w each (freed, mid, first, others) = sweeps_keep f pages mid w each others ∙ each v mid freed first
 
-  pub tidy_left : HasNoMoved w → IsTidy z
-  tidy_left still = record { none_gone = none_gone_left; none_moved = λ a. h.swept.moved a ∙ still a; none_waits = h.none_waits }
+-- no counter but that of the freed slots changes
+pub sweeps_counters : (pages : ℕ) (v w : HeapView) → IsSoundHeap v → SweepsPages pages v w → w.counters ≡ record v.counters { freed = w.counters.freed }
+sweeps_counters zero v w sound same = rw same refl
+sweeps_counters (suc pages) v w sound (freed, mid, first, others) =
+    sweeps_counters pages mid w (sound-first v mid freed first sound) others
+    ∙ ap (λ (c : Counters). record c { freed = w.counters.freed }) (counters-first v mid freed first sound)
 
--- after a verdict each page with a pool waits
-all_wait_settled : (v : HeapView) (kind : Kind) (page : ℕ) → is_some (pool_at (settled v kind) page) ≡ true → is_unswept (settled v kind) page ≡ true
-all_wait_settled v kind page e = is_unswept-settled v kind page ∙ ap is_some (sym (pool_at-settled v kind page)) ∙ e
-
--- where none waits after a verdict nothing is under way
-pub idle_settled : (v : HeapView) (kind : Kind) → (settled v kind).unswept ≡ [] → (settled v kind).phase ≡ Idle
-idle_settled v kind e = phase-settled v kind ∙ ap phase_with (sym (unswept-settled v kind) ∙ e)
-
--- a verdict moves nothing
-pub still_settled : (v : HeapView) (kind : Kind) → HasNoMoved v → HasNoMoved (settled v kind)
-still_settled v kind still a = is_moved-settled v kind a ∙ still a
-
--- and it frees no slot
-pub freed_settled : (v : HeapView) (kind : Kind) → (settled v kind).counters.freed ≡ v.counters.freed
-freed_settled v kind = ap (λ (c : Counters). c.freed) (counters-settled v kind)
-
--- a marking moves nothing
-pub still_marked : (old marked : HeapView) → SameGraph old marked → HasNoMoved old → HasNoMoved marked
-still_marked old marked same still a = same.away a ∙ still a
-
--- a whole collection is one verdict
-pub one_verdict : (old marked z : HeapView) → SameGraph old marked → IsSoundHeap (settled marked Full) → AreAllSwept (settled marked Full) z → IsOneVerdict old z
-one_verdict old marked z same sound h =
-    let w : HeapView = settled marked Full in
-    let born : z.counters.born ≡ old.counters.born = h.swept.born ∙ ap (λ (c : Counters). c.born) (counters-settled marked Full) ∙ ap (λ (c : Counters). c.born) same.counters in
-    let minors : z.counters.minor_verdicts ≡ old.counters.minor_verdicts = h.swept.minor_verdicts ∙ ap (λ (c : Counters). c.minor_verdicts) (counters-settled marked Full) ∙ ap (λ (c : Counters). c.minor_verdicts) same.counters in
-    let others : z.counters.other_verdicts ≡ old.counters.other_verdicts + 1 = h.swept.other_verdicts ∙ ap (λ (c : Counters). c.other_verdicts) (counters-settled marked Full) ∙ ap (λ (c : Counters). c.other_verdicts + 1) same.counters in
-    let freed : w.counters.freed ≡ old.counters.freed = freed_settled marked Full ∙ ap (λ (c : Counters). c.freed) same.counters in
-    let few = freed_few w z sound h.swept in
-    record {
-      born = born;
-      minor_verdicts = minors;
-      other_verdicts = others;
-      freed = omega arith;
-      tidy = λ tidy. tidy_left w z h sound (all_wait_settled marked Full) (still_settled marked Full (still_marked old marked same tidy.none_moved));
-    }
-
--- and leaves as many pages, and the limit
-pub same_pages : (old marked z : HeapView) → SameGraph old marked → AreAllSwept (settled marked Full) z → (length z.pages ≡ length old.pages) × (z.limit ≡ old.limit)
-same_pages old marked z same h = (h.swept.count ∙ count-settled marked Full ∙ same.count, h.swept.limit ∙ limit-settled marked Full ∙ same.limit)
+-- where no page waited nothing changed
+pub sweeps_none : (v w : HeapView) → v.unswept ≡ [] → SweepsAll v w → w ≡ v
+sweeps_none v w none swept = subst (λ pages. SweepsPages pages v w) (ap length none) swept

@@ -13,16 +13,17 @@ use Rattle.std.proofs.lemmas.List.Kept.{AllPairs-filter}
 use Rattle.std.proofs.lemmas.Map.Keys.{IsDistinct-from_apart}
 use Rattle.std.proofs.lemmas.Map.Steps.{length-le_from_distinct_below}
 use Rattle.space_model.specs.Counts.{CountIs}
-use Rattle.space_model.specs.Layout.{page_of}
+use Rattle.space_model.specs.Layout.{page_bytes, page_of}
 use Rattle.space_model.proofs.Members.{member_filter}
 use Rattle.space_model.proofs.VerdictLaws.{CountIs-unique}
 use Rattle.space_heap.specs.HeapView.{HeapView}
 use Rattle.space_heap.specs.SoundHeap.{IsSoundHeap}
-use Rattle.space_heap.specs.NextGone.{HasNoGoneFrom, IsNextGone}
-use Rattle.space_heap.specs.Sweeping.{is_gone}
+use Rattle.space_heap.specs.Walks.{HasNoGoneFrom, IsNextGone}
+use Rattle.space_heap.specs.Objects.{is_occupied, object_of}
+use Rattle.space_heap.specs.Sweeping.{is_gone, HasNoGone}
 use Rattle.space_heap.proofs.Laws.{page_in_heap}
-use Rattle.space_heap.proofs.ObjectLaws.{slot_from_stands}
-use Rattle.space_heap.proofs.SweptPages.{stands_from_gone, standing_below}
+use Rattle.space_heap.proofs.ObjectLaws.{slot_from_occupied}
+use Rattle.space_heap.proofs.SweptPages.{occupied_from_gone, standing_below}
 use Rattle.space_collector.specs.GoneNames.{gone_below, gone_addresses, name_at, gone_names}
 
 -- a range in two parts
@@ -53,13 +54,13 @@ rising_range a n i j d lt within =
     omega arith
 
 -- a gone object stands below the end of the last page
-pub gone_small : (v : HeapView) (a : ℕ) → is_gone v a ≡ true → a < 65536 * (length v.pages + 1)
+pub gone_small : (v : HeapView) (a : ℕ) → is_gone v a ≡ true → a < page_bytes * (length v.pages + 1)
 unfolding page_of
-gone_small v a e = let page = page_in_heap v a (slot_from_stands v a (stands_from_gone v a e)) in grind arith
+gone_small v a e = let page = page_in_heap v a (slot_from_occupied v a (occupied_from_gone v a e)) in grind arith
 
 -- the address of the next gone object is small
 pub next_gone_small : (v : HeapView) (from a : ℕ) → IsSoundHeap v → IsNextGone v from a → a < 2 ^ 29
-next_gone_small v from a sound n = standing_below v a sound (stands_from_gone v a n.is)
+next_gone_small v from a sound n = standing_below v a sound (occupied_from_gone v a n.is)
 
 -- the gone objects below an address, and those from there on
 pub gone_split : (v : HeapView) (m k : ℕ) → gone_below v (m + k) ≡ gone_below v m ++ filter (is_gone v) (range_with_len m k)
@@ -88,7 +89,7 @@ gone_next v from a n =
 -- where none stands from an address on, those below it are all
 pub gone_all : (v : HeapView) (from : ℕ) → HasNoGoneFrom v from → gone_below v from ≡ gone_addresses v
 gone_all v from none =
-    let end : ℕ = 65536 * (length v.pages + 1) in
+    let end : ℕ = page_bytes * (length v.pages + 1) in
     ⊎_elim
     (λ below. sym (gone_same v from end (omega arith) (λ b there under. none b there)))
     (λ past. gone_same v end from past (λ b there under. false_from_ne_true _ (λ t. let s = gone_small v b t in absurd (omega arith))))
@@ -97,16 +98,24 @@ gone_all v from none =
 -- all gone objects are those up to one of them, and those after it
 pub gone_after : (v : HeapView) (a : ℕ) → is_gone v a ≡ true → (rest : List ℕ) × (gone_addresses v ≡ gone_below v (a + 1) ++ rest)
 gone_after v a is =
-    let end : ℕ = 65536 * (length v.pages + 1) in
+    let end : ℕ = page_bytes * (length v.pages + 1) in
     let small = gone_small v a is in
     let e : end ≡ a + 1 + (end - (a + 1)) = omega arith in
     (filter (is_gone v) (range_with_len (a + 1) (end - (a + 1))), ap (gone_below v) e ∙ gone_split v (a + 1) (end - (a + 1)))
+
+-- where none is gone the list is empty
+pub none_gone_below : (v : HeapView) → HasNoGone v → gone_addresses v ≡ []
+unfolding gone_below
+none_gone_below v none = none_pass (is_gone v) 0 (page_bytes * (length v.pages + 1)) (λ a there below. ⊎_elim
+    (λ standing. ap (λ b. b && (object_of v a).gone) standing ∙ none a standing)
+    (λ nothing. ap (λ b. b && (object_of v a).gone) nothing)
+    (cases_Bool (is_occupied v a)))
 
 -- an address is in the list where a gone object stands there
 pub member_gone : (v : HeapView) (a : ℕ) → is_member nat_eq (gone_addresses v) a ≡ is_gone v a
 unfolding gone_below
 member_gone v a =
-    let end : ℕ = 65536 * (length v.pages + 1) in
+    let end : ℕ = page_bytes * (length v.pages + 1) in
     let m = member_filter (is_gone v) (range_with_len 0 end) a in
     let r = member_range 0 end a in
     ⊎_elim
@@ -117,11 +126,29 @@ member_gone v a =
 -- the addresses ascend
 pub gone_rising : (v : HeapView) → AllPairs (λ x y. x < y) (gone_addresses v)
 unfolding gone_below
-gone_rising v = AllPairs-filter (λ x y. x < y) (is_gone v) (range_with_len 0 (65536 * (length v.pages + 1))) (rising_range 0 (65536 * (length v.pages + 1)))
+gone_rising v = AllPairs-filter (λ x y. x < y) (is_gone v) (range_with_len 0 (page_bytes * (length v.pages + 1)))
+    (rising_range 0 (page_bytes * (length v.pages + 1)))
 
 -- each is there once
 pub gone_distinct : (v : HeapView) → IsDistinct nat_eq (gone_addresses v)
 gone_distinct v = IsDistinct-from_apart nat_eq (gone_addresses v) (λ i j d lt within. let rising = gone_rising v i j d lt within in grind (arith, nat_tests))
+
+-- how many numbers pass a test, where none above a bound does
+pub CountIs-passing : (test : ℕ → Bool) (bound : ℕ) → ((a : ℕ) → test a ≡ true → a < bound) →
+    CountIs (λ a. test a ≡ true) (length (filter test (range_with_len 0 bound)))
+CountIs-passing test bound small = record {
+  names = filter test (range_with_len 0 bound);
+  once = IsDistinct-from_apart nat_eq (filter test (range_with_len 0 bound)) (λ i j d lt within.
+      let rising = AllPairs-filter (λ x y. x < y) test (range_with_len 0 bound) (rising_range 0 bound) i j d lt within in
+      grind (arith, nat_tests));
+  are = λ a.
+      let m = member_filter test (range_with_len 0 bound) a in
+      let r = member_range 0 bound a in (
+        (λ t. ⊎_elim (λ passes. passes) (λ f. grind (arith, nat_tests, m, r, t, f)) (cases_Bool (test a))),
+        (λ t. let below = small a t in grind (arith, nat_tests, m, r, t)),
+      );
+  long = refl;
+}
 
 -- so they are as many as the gone objects
 pub CountIs-gone : (v : HeapView) → CountIs (λ a. is_gone v a ≡ true) (length (gone_addresses v))
@@ -139,7 +166,8 @@ gone_count v k h = CountIs-unique (λ a. is_gone v a ≡ true) k (length (gone_a
 -- they are fewer than the addresses that there may be
 pub gone_few : (v : HeapView) → IsSoundHeap v → length (gone_names v) < 2 ^ 29
 gone_few v sound =
-    let few = length-le_from_distinct_below (gone_addresses v) (65536 * (length v.pages + 1)) (gone_distinct v) (λ a m. gone_small v a (sym (member_gone v a) ∙ m)) in
+    let few = length-le_from_distinct_below (gone_addresses v) (page_bytes * (length v.pages + 1)) (gone_distinct v)
+    (λ a m. gone_small v a (sym (member_gone v a) ∙ m)) in
     let limited = sound.limited in
     let most = sound.most in
     let long = length-map (gone_addresses v) (name_at v) in
@@ -167,7 +195,8 @@ member_gone_names v name = (
 )
 
 -- the names ascend by what gives each its address
-pub gone_names_rising : (v : HeapView) (address : ℕ → ℕ) → ((a : ℕ) → is_gone v a ≡ true → address (name_at v a) ≡ a) → AllPairs (λ x y. address x < address y) (gone_names v)
+pub gone_names_rising : (v : HeapView) (address : ℕ → ℕ) → ((a : ℕ) → is_gone v a ≡ true → address (name_at v a) ≡ a) →
+    AllPairs (λ x y. address x < address y) (gone_names v)
 gone_names_rising v address back i j d lt within =
     let xs : List ℕ = gone_addresses v in
     let long : length (gone_names v) ≡ length xs = length-map xs (name_at v) in

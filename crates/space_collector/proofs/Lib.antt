@@ -1,5 +1,7 @@
-pub mod PagesGiven
-mod PageSweeps
-pub mod AllSweeps
+pub mod QuiescentLaws
 pub mod GoneLists
+pub mod PageSweeps
+pub mod SoundSweeps
+pub mod AllSweeps
+pub mod HeapVerdictLaws
 pub mod ToldLines

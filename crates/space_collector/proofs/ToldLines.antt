@@ -13,9 +13,9 @@ use Rattle.space_model.specs.declared.event.Event.TheVariants.{Gone, Verdict}
 use Rattle.space_model.specs.declared.event.Kind.{Kind}
 use Rattle.space_model.specs.Outputs.{Output, Told}
 use Rattle.space_model.specs.Texts.{event_pieces, output_pieces, line_of_pieces, text_of, AreSpelled}
-use Rattle.space_model.specs.WholeCollections.{verdict_events}
+use Rattle.space_model.specs.Verdicts.{verdict_events}
 use Rattle.space_heap.specs.HeapView.{HeapView}
-use Rattle.space_heap.specs.NextGone.{HasNoGoneFrom, IsNextGone}
+use Rattle.space_heap.specs.Walks.{HasNoGoneFrom, IsNextGone}
 use Rattle.space_heap.specs.SoundHeap.{IsSoundHeap}
 use Rattle.space_heap.specs.Sweeping.{is_gone}
 use Rattle.space_collector.specs.GoneNames.{gone_below, gone_addresses, name_at, gone_names}
@@ -64,9 +64,10 @@ told_next v from a n =
     ∙ lines_of-append v (gone_below v from) (a ∷ [])
     ∙ ap (λ xs. told v from ++ xs) (append-nil (event_line (Gone (name_at v a))))
 
--- the lines of the objects up to one are a front of the text
-told_front : (kind : Kind) (v : HeapView) (from a : ℕ) → IsNextGone v from a → (rest : List ℕ) × (verdict_text kind v ≡ (told v from ++ event_line (Gone (name_at v a))) ++ rest)
-told_front kind v from a n =
+-- the lines of the objects up to one are a prefix of the text
+told_prefix : (kind : Kind) (v : HeapView) (from a : ℕ) → IsNextGone v from a →
+    (rest : List ℕ) × (verdict_text kind v ≡ (told v from ++ event_line (Gone (name_at v a))) ++ rest)
+told_prefix kind v from a n =
     let after = gone_after v a n.is in
     let last : List ℕ = event_line (Verdict kind (length (gone_names v))) in (
       lines_of v after.0 ++ last,
@@ -78,9 +79,11 @@ told_front kind v from a n =
 
 take_after : (n : ℕ) (xs ys : List ℕ) → take (length xs + n) (xs ++ ys) ≡ xs ++ take n ys
 take_after n [] ys = let e : 0 + n ≡ n = omega arith in ap (λ k. take k ys) e
-take_after n (x ∷ xs) ys = let e : length (x ∷ xs) + n ≡ suc (length xs + n) = omega arith in ap (λ k. take k (x ∷ xs ++ ys)) e ∙ ap (λ zs. x ∷ zs) (take_after n xs ys)
+take_after n (x ∷ xs) ys =
+    let e : length (x ∷ xs) + n ≡ suc (length xs + n) = omega arith in
+    ap (λ k. take k (x ∷ xs ++ ys)) e ∙ ap (λ zs. x ∷ zs) (take_after n xs ys)
 
--- a front of a piece, after a whole one
+-- a prefix of a piece, after a whole one
 pub prefix_after : (a b c : Option (List ℕ)) (xs ys : List ℕ) → Appends a b xs → AppendsPrefix b c ys → AppendsPrefix a c (xs ++ ys)
 prefix_after a b c xs ys first second = (
   length xs + second.0,
@@ -88,7 +91,7 @@ prefix_after a b c xs ys first second = (
   subst (Appends a c) (sym (take_after second.0 xs ys)) (Appends-trans a b c xs (take second.0 ys) first second.2),
 )
 
--- a front of a piece is one of a longer piece
+-- a prefix of a piece is one of a longer piece
 pub prefix_longer : (a b : Option (List ℕ)) (xs ys : List ℕ) → AppendsPrefix a b xs → AppendsPrefix a b (xs ++ ys)
 prefix_longer a b xs ys p = (
   p.0,
@@ -102,13 +105,15 @@ module _ (v : HeapView) (kind : Kind) (before now after : Option (List ℕ)) (fr
       subst (Appends before after) (sym (told_next v from a n))
       (Appends-trans before now after (told v from) (event_line (Gone (name_at v a))) so_far (subst (λ m. Appends now after (event_line (Gone m))) is written))
 
-  pub stops : {T E : Type 0} (result : Result T E) (a name : ℕ) → IsNextGone v from a → name ≡ name_at v a → AppendsPrefix now after (event_line (Gone name)) → OnErr result (AppendsPrefix before after (verdict_text kind v))
+  pub stops : {T E : Type 0} (result : Result T E) (a name : ℕ) → IsNextGone v from a → name ≡ name_at v a →
+      AppendsPrefix now after (event_line (Gone name)) → OnErr result (AppendsPrefix before after (verdict_text kind v))
   stops (Ok value) a name n is written = tt
   stops (Err fault) a name n is written =
-      let front = told_front kind v from a n in
-      subst (AppendsPrefix before after) (sym front.1)
-      (prefix_longer before after (told v from ++ event_line (Gone (name_at v a))) front.0
-      (prefix_after before now after (told v from) (event_line (Gone (name_at v a))) so_far (subst (λ m. AppendsPrefix now after (event_line (Gone m))) is written)))
+      let prefix = told_prefix kind v from a n in
+      subst (AppendsPrefix before after) (sym prefix.1)
+      (prefix_longer before after (told v from ++ event_line (Gone (name_at v a))) prefix.0
+      (prefix_after before now after (told v from) (event_line (Gone (name_at v a))) so_far
+      (subst (λ m. AppendsPrefix now after (event_line (Gone m))) is written)))
 
   whole : HasNoGoneFrom v from → (count : ℕ) → count ≡ length (gone_names v) → verdict_text kind v ≡ told v from ++ event_line (Verdict kind count)
   whole none count is =
@@ -116,17 +121,21 @@ module _ (v : HeapView) (kind : Kind) (before now after : Option (List ℕ)) (fr
       ∙ ap (λ xs. lines_of v xs ++ event_line (Verdict kind (length (gone_names v)))) (sym (gone_all v from none))
       ∙ ap (λ k. told v from ++ event_line (Verdict kind k)) (sym is)
 
-  pub ends : {T E : Type 0} (result : Result T E) → HasNoGoneFrom v from → (count : ℕ) → count ≡ length (gone_names v) → OnOk result (Appends now after (event_line (Verdict kind count))) → OnOk result (Appends before after (verdict_text kind v))
+  pub ends : {T E : Type 0} (result : Result T E) → HasNoGoneFrom v from → (count : ℕ) → count ≡ length (gone_names v) →
+      OnOk result (Appends now after (event_line (Verdict kind count))) → OnOk result (Appends before after (verdict_text kind v))
   ends (Ok value) none count is written =
       subst (Appends before after) (sym (whole none count is)) (Appends-trans before now after (told v from) (event_line (Verdict kind count)) so_far written)
   ends (Err fault) none count is written = tt
 
-  pub ends_early : {T E : Type 0} (result : Result T E) → HasNoGoneFrom v from → (count : ℕ) → count ≡ length (gone_names v) → AppendsPrefix now after (event_line (Verdict kind count)) → OnErr result (AppendsPrefix before after (verdict_text kind v))
+  pub ends_early : {T E : Type 0} (result : Result T E) → HasNoGoneFrom v from → (count : ℕ) → count ≡ length (gone_names v) →
+      AppendsPrefix now after (event_line (Verdict kind count)) → OnErr result (AppendsPrefix before after (verdict_text kind v))
   ends_early (Ok value) none count is written = tt
   ends_early (Err fault) none count is written =
-      subst (AppendsPrefix before after) (sym (whole none count is)) (prefix_after before now after (told v from) (event_line (Verdict kind count)) so_far written)
+      subst (AppendsPrefix before after) (sym (whole none count is))
+      (prefix_after before now after (told v from) (event_line (Verdict kind count)) so_far written)
 
-spelled_from : (kind : Kind) (count : ℕ) (name : ℕ → ℕ) (xs : List ℕ) → ((a : ℕ) → is_member nat_eq xs a ≡ true → name a < 2 ^ 64) → count < 2 ^ 64 → AreSpelled (map Told (map Gone (map name xs) ++ Verdict kind count ∷ []))
+spelled_from : (kind : Kind) (count : ℕ) (name : ℕ → ℕ) (xs : List ℕ) → ((a : ℕ) → is_member nat_eq xs a ≡ true → name a < 2 ^ 64) → count < 2 ^ 64 →
+    AreSpelled (map Told (map Gone (map name xs) ++ Verdict kind count ∷ []))
 spelled_from kind count name [] small few = ((few, tt), tt)
 spelled_from kind count name (x ∷ xs) small few = (
   (small x (or_left (nat_eq x x) _ (eq-eqb x x refl)), tt),
@@ -134,6 +143,8 @@ spelled_from kind count name (x ∷ xs) small few = (
 )
 
 -- the numbers of the lines can be written, where the names are small
-pub verdict_spelled : (v : HeapView) (kind : Kind) → IsSoundHeap v → ((a : ℕ) → is_gone v a ≡ true → name_at v a < 2 ^ 64) → AreSpelled (map Told (verdict_events kind (gone_names v)))
+pub verdict_spelled : (v : HeapView) (kind : Kind) → IsSoundHeap v → ((a : ℕ) → is_gone v a ≡ true → name_at v a < 2 ^ 64) →
+    AreSpelled (map Told (verdict_events kind (gone_names v)))
 verdict_spelled v kind sound small =
-    spelled_from kind (length (gone_names v)) (name_at v) (gone_addresses v) (λ a m. small a (sym (member_gone v a) ∙ m)) (let few = gone_few v sound in omega arith)
+    spelled_from kind (length (gone_names v)) (name_at v) (gone_addresses v) (λ a m. small a (sym (member_gone v a) ∙ m))
+    (let few = gone_few v sound in omega arith)

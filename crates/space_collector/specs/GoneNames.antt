@@ -1,6 +1,7 @@
 -- The objects that a verdict found to be gone, in ascending order of address, and their names.
 use Rattle.std.specs.Prelude.{ℕ, ◌+◌, ◌*◌, List, length, map}
 use Rattle.std.specs.List.{range_with_len, filter}
+use Rattle.space_model.specs.Layout.{page_bytes}
 use Rattle.space_heap.specs.HeapView.{HeapView}
 use Rattle.space_heap.specs.Objects.{object_of}
 use Rattle.space_heap.specs.Sweeping.{is_gone}
@@ -11,7 +12,7 @@ gone_below v bound = filter (is_gone v) (range_with_len 0 bound)
 
 -- all of them: none stands past the last page
 abbrev pub gone_addresses : HeapView → List ℕ
-gone_addresses v = gone_below v (65536 * (length v.pages + 1))
+gone_addresses v = gone_below v (page_bytes * (length v.pages + 1))
 
 -- the name of the object at an address
 abbrev pub name_at : HeapView → ℕ → ℕ

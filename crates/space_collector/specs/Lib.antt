@@ -1,6 +1,4 @@
-pub mod Births
 pub mod GoneNames
-pub mod AllSwept
-pub mod Tidy
-pub mod Ticks
-pub mod HeapCollections
+pub mod Quiescent
+pub mod HeapVerdicts
+pub mod PagesSwept

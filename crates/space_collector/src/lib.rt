@@ -1,10 +1,11 @@
-//! What commands do to a heap besides reading and writing it: births, and whole collections with the lines that they tell.
+//! The pieces of a collection: a whole marking with its verdict, the lines that tell a verdict of any kind, and the sweep of
+//! the pages that wait.
 #![tactic(auto)]
 
-mod births;
 mod collecting;
 mod sweeping;
 mod telling;
 
-pub use births::{Unborn, bear};
 pub use collecting::{Collected, collect};
+pub use sweeping::sweep_all;
+pub use telling::tell_gone;

@@ -1,82 +1,29 @@
-use Rattle.std.proofs.Common.{◌≡◌, sym, ap, ◌∙◌, subst, arith, []}
-use Rattle.space_model.specs.declared.event.Kind.TheVariants.{Full}
-use Rattle.space_model.specs.declared.phase.Phase.TheVariants.{Idle}
-use Rattle.space_heap.specs.HeapView.{Counters, HeapView}
-use Rattle.space_heap.specs.Objects.{is_moved}
+use Rattle.std.proofs.Common.{sym, ap, ◌∙◌, subst}
+use Rattle.space_heap.specs.Slots.{ObjectView}
+use Rattle.space_heap.specs.HeapView.{HeapView}
 use Rattle.space_heap.specs.SoundHeap.{IsSoundHeap}
-use Rattle.space_collector.specs.AllSwept.{AreAllSwept}
-use Rattle.space_collector.specs.GoneNames.{gone_names}
-use Rattle.space_collector.proofs.AllSweeps.{idle_settled, still_settled, still_marked, freed_settled, one_verdict, same_pages}
+use Rattle.space_model.specs.declared.event.Kind.TheVariants.{Full}
+use Rattle.space_collector.specs.Quiescent.{IsQuiescent}
 use Rattle.space_collector.proofs.GoneLists.{gone_count}
+use Rattle.space_collector.proofs.HeapVerdictLaws.{quiescent-settled}
+use Rattle.space_collector.proofs.QuiescentLaws.{none_gone, none_moved_idle, idle_not_sweeping}
 use Rattle.space_collector.proofs.collecting.collect.Goals as goal
 
-pub tell_verdict-told-requires : goal.tell_verdict-told-requires
-tell_verdict-told-requires g c = gone_count c.verdict-gone.new.heap c.verdict-gone.result c.verdict-gone.ensures.gone
+pub verdict-gone-requires-clause-none_gone : goal.verdict-gone-requires-clause-none_gone
+verdict-gone-requires-clause-none_gone g c = λ a e.
+    ap (λ (o : ObjectView). o.gone) (c.whole-scans.ensures.same.objects a)
+    ∙ none_gone c.args.heap.now c.requires.able.quiescent (idle_not_sweeping c.args.heap.now.phase c.requires.able.idle) a
+    (sym (c.whole-scans.ensures.same.standing a) ∙ e)
 
-pub sweep_all-requires-clause-few : goal.sweep_all-requires-clause-few
-sweep_all-requires-clause-few g c =
-    let kept : c.verdict-gone.new.heap.counters.freed ≡ c.args.heap.now.counters.freed =
-    ap (λ (v : HeapView). v.counters.freed) c.verdict-gone.ensures.settled
-    ∙ freed_settled c.whole-scans.new.heap Full
-    ∙ ap (λ (n : Counters). n.freed) c.whole-scans.ensures.same.counters in
-    let few = c.requires.able.freed in
-    omega arith
+pub returns-clause-gone : goal.returns-clause-gone
+returns-clause-gone g c = gone_count c.verdict-gone.new.heap c.verdict-gone.result c.verdict-gone.ensures.gone
 
-pub sweep_all-requires-clause-none_moved : goal.sweep_all-requires-clause-none_moved
-sweep_all-requires-clause-none_moved g c = λ a.
-    ap (λ (v : HeapView). is_moved v a) c.verdict-gone.ensures.settled
-    ∙ still_settled c.whole-scans.new.heap Full (still_marked c.args.heap.now c.whole-scans.new.heap c.whole-scans.ensures.same c.requires.able.tidy.none_moved) a
-
-pub sweep_all-requires-clause-waits : goal.sweep_all-requires-clause-waits
-sweep_all-requires-clause-waits g c = subst (λ (v : HeapView). v.unswept ≡ [] → v.phase ≡ Idle) (sym c.verdict-gone.ensures.settled) (idle_settled c.whole-scans.new.heap Full)
-
-pub returns-in-Ok-clause-done : goal.returns-in-Ok-clause-done
-returns-in-Ok-clause-done g c = record {
-  names = gone_names c.verdict-gone.new.heap;
-  many = gone_count c.verdict-gone.new.heap c.verdict-gone.result c.verdict-gone.ensures.gone;
-  collects = record {
-    marked = c.whole-scans.new.heap;
-    marks = c.whole-scans.ensures.marked;
-    counted = c.whole-scans.ensures.counted;
-    few = c.whole-scans.ensures.few;
-    same = c.whole-scans.ensures.same;
-    names_are = ap gone_names c.verdict-gone.ensures.settled;
-    waiting = subst IsSoundHeap c.verdict-gone.ensures.settled c.page_count.ensures.sound;
-    swept = subst (λ (w : HeapView). AreAllSwept w c.sweep_all.new.heap) c.verdict-gone.ensures.settled c.sweep_all.ensures.swept;
-    idle = c.sweep_all.ensures.idle;
-    sound = c.sweep_all.ensures.sound;
-  };
-  written = c.in-Ok.ensures.done;
-}
-
-pub returns-in-Ok-clause-one_verdict : goal.returns-in-Ok-clause-one_verdict
-returns-in-Ok-clause-one_verdict g c =
-    one_verdict c.args.heap.now c.whole-scans.new.heap c.sweep_all.new.heap c.whole-scans.ensures.same
-    (subst IsSoundHeap c.verdict-gone.ensures.settled c.page_count.ensures.sound)
-    (subst (λ (w : HeapView). AreAllSwept w c.sweep_all.new.heap) c.verdict-gone.ensures.settled c.sweep_all.ensures.swept)
-
-pub returns-in-Err-clause-one_verdict : goal.returns-in-Err-clause-one_verdict
-returns-in-Err-clause-one_verdict g c =
-    one_verdict c.args.heap.now c.whole-scans.new.heap c.sweep_all.new.heap c.whole-scans.ensures.same
-    (subst IsSoundHeap c.verdict-gone.ensures.settled c.page_count.ensures.sound)
-    (subst (λ (w : HeapView). AreAllSwept w c.sweep_all.new.heap) c.verdict-gone.ensures.settled c.sweep_all.ensures.swept)
-
-pub returns-in-Ok-clause-page_count : goal.returns-in-Ok-clause-page_count
-returns-in-Ok-clause-page_count g c =
-    (same_pages c.args.heap.now c.whole-scans.new.heap c.sweep_all.new.heap c.whole-scans.ensures.same
-    (subst (λ (w : HeapView). AreAllSwept w c.sweep_all.new.heap) c.verdict-gone.ensures.settled c.sweep_all.ensures.swept)).0
-
-pub returns-in-Ok-clause-limit : goal.returns-in-Ok-clause-limit
-returns-in-Ok-clause-limit g c =
-    (same_pages c.args.heap.now c.whole-scans.new.heap c.sweep_all.new.heap c.whole-scans.ensures.same
-    (subst (λ (w : HeapView). AreAllSwept w c.sweep_all.new.heap) c.verdict-gone.ensures.settled c.sweep_all.ensures.swept)).1
-
-pub returns-in-Err-clause-page_count : goal.returns-in-Err-clause-page_count
-returns-in-Err-clause-page_count g c =
-    (same_pages c.args.heap.now c.whole-scans.new.heap c.sweep_all.new.heap c.whole-scans.ensures.same
-    (subst (λ (w : HeapView). AreAllSwept w c.sweep_all.new.heap) c.verdict-gone.ensures.settled c.sweep_all.ensures.swept)).0
-
-pub returns-in-Err-clause-limit : goal.returns-in-Err-clause-limit
-returns-in-Err-clause-limit g c =
-    (same_pages c.args.heap.now c.whole-scans.new.heap c.sweep_all.new.heap c.whole-scans.ensures.same
-    (subst (λ (w : HeapView). AreAllSwept w c.sweep_all.new.heap) c.verdict-gone.ensures.settled c.sweep_all.ensures.swept)).1
+pub returns-clause-quiescent : goal.returns-clause-quiescent
+returns-clause-quiescent g c =
+    let marked : HeapView = c.whole-scans.new.heap in
+    let still = none_moved_idle c.args.heap.now c.requires.able.quiescent c.requires.able.idle in
+    subst IsQuiescent (sym c.verdict-gone.ensures.settled)
+    (quiescent-settled marked Full
+    (subst IsSoundHeap c.verdict-gone.ensures.settled c.verdict-gone.ensures.sound)
+    (λ a. c.whole-scans.ensures.same.away a ∙ still a)
+    (record { listed = c.whole-scans.ensures.no_list; objects = c.whole-scans.ensures.none_grey }))
