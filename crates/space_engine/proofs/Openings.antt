@@ -1,41 +1,70 @@
 -- A space before the first command.
-use Rattle.std.proofs.Common.{ℕ, true≢false, refl, sym, ◌∙◌}
+use Rattle.std.proofs.Common.{◌≢◌, ℕ, lit≤, true≢false, refl, sym, ◌∙◌}
 use Rattle.std.specs.Ordering.{nat_cmp}
 use Rattle.std.specs.FinMap.{get-empty}
-use Rattle.space_model.specs.Places.{IsFree}
+use Rattle.std.proofs.lemmas.Bool.{and_parts}
+use Rattle.space_model.specs.declared.phase.Phase.TheVariants.{Idle, Sweeping}
 use Rattle.space_model.specs.State.{opening}
 use Rattle.space_model.proofs.SoundKept.{Sound-opening}
+use Rattle.space_heap.specs.declared.colour.Colour.TheVariants.{White, Grey}
+use Rattle.space_heap.specs.HeapView.{empty_heap}
 use Rattle.space_heap.proofs.FreeLaws.{is_moved-empty}
-use Rattle.space_heap.proofs.EmptyHeaps.{stands-empty, is_object-empty, is_free_at-empty}
+use Rattle.space_heap.proofs.EmptyHeaps.{is_occupied-empty, is_object-empty}
+use Rattle.space_collector.proofs.QuiescentLaws.{white_where_none}
 use Rattle.space_engine.specs.Stands.{Holds}
+use Rattle.space_engine.specs.Turns.{IsWithinTurns}
 use Rattle.space_engine.specs.Views.{empty_view}
 use Rattle.space_engine.proofs.Outcomes.{none_some}
 
 pub opening_held : (limit : ℕ) → Holds (empty_view limit) (opening limit)
 opening_held limit = record {
   represents = record {
-    objects = record {
-      stands = λ name address e. absurd (none_some address (sym (get-empty nat_cmp name) ∙ e));
-      is = λ name address e. absurd (none_some address (sym (get-empty nat_cmp name) ∙ e));
-      only = λ address e. absurd (true≢false (sym e ∙ is_object-empty limit address));
+    heap = record {
+      objects = record {
+        stands = λ name address e. absurd (none_some address (sym (get-empty nat_cmp name) ∙ e));
+        is = λ name address e. absurd (none_some address (sym (get-empty nat_cmp name) ∙ e));
+        only = λ address e. absurd (true≢false (sym e ∙ is_object-empty limit address));
+      };
+      corpses = record {
+        lies = λ name address e. absurd (none_some address (sym (get-empty nat_cmp name) ∙ e));
+        gone = λ name address e. absurd (none_some address (sym (get-empty nat_cmp name) ∙ e));
+        named = λ name address e. absurd (none_some address (sym (get-empty nat_cmp name) ∙ e));
+        only = λ address e f. absurd (true≢false (sym e ∙ is_occupied-empty limit address));
+      };
+      left = record {
+        lies = λ name address e. absurd (none_some address (sym (get-empty nat_cmp name) ∙ e));
+        leads = λ name address e. absurd (none_some address (sym (get-empty nat_cmp name) ∙ e));
+        only = λ address e. absurd (true≢false (sym e ∙ is_moved-empty limit address));
+      };
+      pages = record { count = refl; pools = λ page. refl; limited = refl; waiting = refl };
+      progress = record { at = refl; until = refl; none_grey = λ phase. refl };
+      counted = record { allocated = refl; minor_verdicts = refl; other_verdicts = refl; freed = refl; compactions = refl; moves = refl };
     };
-    pages = record {
-      count = refl;
-      pools = λ page. refl;
-      limit = refl;
-      free = λ pool address. (λ (f : IsFree (opening limit) pool address). absurd (none_some pool f.at.has_pool), λ f. absurd (true≢false (sym f ∙ is_free_at-empty limit pool address)));
-    };
-    corpses = record {
-      lies = λ name address e. absurd (none_some address (sym (get-empty nat_cmp name) ∙ e));
-      gone = λ name address e. absurd (none_some address (sym (get-empty nat_cmp name) ∙ e));
-      named = λ name address e. absurd (none_some address (sym (get-empty nat_cmp name) ∙ e));
-      only = λ address e f. absurd (true≢false (sym e ∙ stands-empty limit address));
-    };
-    progress = record { phase = refl; unswept = refl; born = refl };
-    unmoved = record { left = refl; none = is_moved-empty limit };
     roots = refl;
     stack = refl;
   };
-  idle = refl;
   sound = Sound-opening limit;
 }
+
+-- and its heap
+pub opening_within : (limit : ℕ) → IsWithinTurns (empty_heap limit) 0
+opening_within limit = record {
+  quiescent = record {
+    gone_wait = λ a e. absurd (true≢false (sym (and_parts _ _ e).0 ∙ is_occupied-empty limit a));
+    none_waits = λ phase. refl;
+    some_wait = λ e none. idle_sweeping e;
+    none_moved = λ moving fixing. is_moved-empty limit;
+    none_grey = λ phase. record { listed = refl; objects = λ a e. white_grey (sym (white_where_none (empty_heap limit) a (is_occupied-empty limit a)) ∙ e) };
+  };
+  rests = refl;
+  born = lit≤ tt;
+  minor_verdicts = lit≤ tt;
+  other_verdicts = lit≤ tt;
+  freed = lit≤ tt;
+}
+  where
+    idle_sweeping : Idle ≢ Sweeping
+    idle_sweeping e = cc
+
+    white_grey : White ≢ Grey
+    white_grey e = cc

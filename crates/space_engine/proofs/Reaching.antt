@@ -1,10 +1,10 @@
--- What is reached in the heap, by addresses, and what is reached in the state, by names.
+-- What is reached in the heap, by addresses, and what is reached in the state, by names, where no object was moved.
 use Rattle.std.proofs.Common.{◌≡◌, ℕ, true, List, [], ◌∷◌, map, nat_eq, refl, sym, ap, ◌∙◌, subst, ⊎_elim, inl, inr, Option, None, Some}
 use Rattle.std.specs.Prelude.{is_some}
 use Rattle.std.specs.Option.{unwrap_or}
 use Rattle.std.specs.List.{flat_map}
 use Rattle.std.specs.Set.{is_member}
-use Rattle.std.specs.FinMap.{get}
+use Rattle.std.specs.FinMap.{get, empty}
 use Rattle.std.proofs.Math.ListN.{length-map}
 use Rattle.std.proofs.lemmas.Bool.{and_parts, and_from, eqb-true, eq-eqb, or_cases, or_left, or_right, false≢true}
 use Rattle.std.proofs.lemmas.Simd.{map-map}
@@ -22,13 +22,16 @@ use Rattle.space_model.proofs.Reaching.{IsReached-start, IsReached-closed, IsRea
 use Rattle.space_heap.specs.Objects.{is_object, object_of}
 use Rattle.space_heap.proofs.NumberLists.{IsDistinct-map}
 use Rattle.space_roots.specs.WordRoots.{root_words}
-use Rattle.space_major.specs.Graph.{IsLive}
-use Rattle.space_major.specs.Graph as heap
-use Rattle.space_major.specs.Scans.{fields_of}
+use Rattle.space_tracing.specs.Graph.{IsLive}
+use Rattle.space_tracing.specs.Graph as heap
+use Rattle.space_tracing.specs.Scans.{fields_of}
 use Rattle.space_collector.specs.GoneNames.{name_at}
 use Rattle.space_engine.specs.Stands.{Holds}
 use Rattle.space_engine.specs.Views.{View}
 use Rattle.space_engine.proofs.FieldWords.{nothing_at_zero, nothing_at_odd}
+use Rattle.space_engine.proofs.ResolvedRoots.{resolved_roots-unmoved}
+use Rattle.space_engine.proofs.Resolving.{none_moved}
+use Rattle.space_engine.proofs.StoredWords.{stored_words-fresh}
 use Rattle.space_engine.proofs.Outcomes.{some_same}
 
 -- lists of names, unfolded
@@ -43,33 +46,34 @@ root_names_are roots = refl
 
 -- the members of a list of values of a function
 
-member_map : (f : ℕ → ℕ) (xs : List ℕ) (x : ℕ) → is_member nat_eq xs x ≡ true → is_member nat_eq (map f xs) (f x) ≡ true
+pub member_map : (f : ℕ → ℕ) (xs : List ℕ) (x : ℕ) → is_member nat_eq xs x ≡ true → is_member nat_eq (map f xs) (f x) ≡ true
 member_map f [] x m = absurd (false≢true m)
 member_map f (y ∷ ys) x m = ⊎_elim
     (λ e. or_left (nat_eq (f x) (f y)) _ (eq-eqb (f x) (f y) (ap f (eqb-true x y e))))
     (λ r. or_right (nat_eq (f x) (f y)) _ (member_map f ys x r))
     (or_cases _ _ m)
 
-member_unmap : (f : ℕ → ℕ) (xs : List ℕ) (q : ℕ) → is_member nat_eq (map f xs) q ≡ true → (x : ℕ) × (is_member nat_eq xs x ≡ true) × (q ≡ f x)
+pub member_unmap : (f : ℕ → ℕ) (xs : List ℕ) (q : ℕ) → is_member nat_eq (map f xs) q ≡ true → (x : ℕ) × (is_member nat_eq xs x ≡ true) × (q ≡ f x)
 member_unmap f [] q m = absurd (false≢true m)
 member_unmap f (y ∷ ys) q m = ⊎_elim
     (λ e. (y, or_left (nat_eq y y) _ (eq-eqb y y refl), eqb-true q (f y) e))
     (λ r. let u = member_unmap f ys q r in (u.0, or_right (nat_eq u.0 y) _ u.1, u.2))
     (or_cases _ _ m)
 
-module _ (v : View) (s : State) (h : Holds v s) where
+module _ (v : View) (s : State) (h : Holds v s) (unmoved : s.heap.left ≡ empty) (fresh : s.collector.stale ≡ []) where
   abbrev IsAt : ℕ → ℕ → Type 0
   IsAt name address = get s.heap.place name ≡ Some address
 
   -- the name of the object at the address of a name
   named : (name address : ℕ) → IsAt name address → (object_of v.heap address).name ≡ name
-  named name address at = (h.represents.objects.is name address at).named
+  named name address at = (h.represents.heap.objects.is name address at).named
 
   present : (name address : ℕ) → IsAt name address → is_object v.heap address ≡ true
-  present name address at = h.represents.objects.stands name address at
+  present name address at = h.represents.heap.objects.stands name address at
 
   -- the value whose word is the address of an object is its name
-  value_at : (value : Value) (address : ℕ) → is_object v.heap address ≡ true → address ≡ value_word s.heap.place value → (name : ℕ) × (is_member nat_eq (names_of value) name ≡ true) × IsAt name address
+  value_at : (value : Value) (address : ℕ) → is_object v.heap address ≡ true → address ≡ value_word s.heap.place value →
+      (name : ℕ) × (is_member nat_eq (names_of value) name ≡ true) × IsAt name address
   value_at Nil address is e = absurd (false≢true (sym (ap (is_object v.heap) e ∙ nothing_at_zero v s h) ∙ is))
   value_at (Small number) address is e = absurd (false≢true (sym (ap (is_object v.heap) e ∙ nothing_at_odd v s h number) ∙ is))
   value_at (Name name) address is e = (name, or_left _ _ (eq-eqb name name refl), placed_at (get s.heap.place name) e)
@@ -90,11 +94,13 @@ module _ (v : View) (s : State) (h : Holds v s) where
   -- of anything that has a value, as roots and fields
   module _ {X : Type 0} (value_of : X → Value) where
     -- an object whose address is among the words, and its name among the names
-    held_by : (xs : List X) (address : ℕ) → is_object v.heap address ≡ true → is_member nat_eq (map (λ x. value_word s.heap.place (value_of x)) xs) address ≡ true →
+    held_by : (xs : List X) (address : ℕ) → is_object v.heap address ≡ true →
+        is_member nat_eq (map (λ x. value_word s.heap.place (value_of x)) xs) address ≡ true →
         (name : ℕ) × (is_member nat_eq (flat_map (λ x. names_of (value_of x)) xs) name ≡ true) × IsAt name address
     held_by [] address is m = absurd (false≢true m)
     held_by (x ∷ xs) address is m = ⊎_elim
-        (λ e. let r = value_at (value_of x) address is (eqb-true address (value_word s.heap.place (value_of x)) e) in (r.0, member_left (names_of (value_of x)) _ r.0 r.1, r.2))
+        (λ e. let r = value_at (value_of x) address is (eqb-true address (value_word s.heap.place (value_of x)) e) in
+        (r.0, member_left (names_of (value_of x)) _ r.0 r.1, r.2))
         (λ t. let r = held_by xs address is t in (r.0, member_right (names_of (value_of x)) _ r.0 r.1, r.2))
         (or_cases _ _ m)
 
@@ -110,10 +116,14 @@ module _ (v : View) (s : State) (h : Holds v s) where
   -- the words of roots and fields are those of their values
 
   words_of_roots : root_words v.roots ≡ map (λ (root : Root). value_word s.heap.place root.1) s.roots
-  words_of_roots = ap root_words h.represents.roots ∙ map-map (λ (root : List ℕ × ℕ). root.1) (λ (root : Root). (root.0, value_word s.heap.place root.1)) s.roots
+  words_of_roots = ap root_words (sym (resolved_roots-unmoved v.heap (none_moved v s h unmoved) v.roots) ∙ h.represents.roots)
+      ∙ map-map (λ (root : List ℕ × ℕ). root.1) (λ (root : Root). (root.0, value_word s.heap.place root.1)) s.roots
 
-  words_of_fields : (name address : ℕ) → IsAt name address → fields_of v.heap address ≡ map (λ value. value_word s.heap.place value) (item_of s.graph name).values
-  words_of_fields name address at = (h.represents.objects.is name address at).fields
+  words_of_fields : (name address : ℕ) → IsAt name address →
+      fields_of v.heap address ≡ map (λ value. value_word s.heap.place value) (item_of s.graph name).values
+  words_of_fields name address at =
+      (h.represents.heap.objects.is name address at).fields
+      ∙ stored_words-fresh s.heap.place s.heap.left s.collector.stale name fresh (item_of s.graph name).values
 
   -- a start or a child by name is one by address
 
@@ -125,7 +135,8 @@ module _ (v : View) (s : State) (h : Holds v s) where
         at.1,
         inl (
           present name at.0 at.1,
-          ap (λ words. is_member nat_eq words at.0) words_of_roots ∙ holds (λ (root : Root). root.1) s.roots name at.0 at.1 (ap (λ names. is_member nat_eq names name) (sym (root_names_are s.roots)) ∙ m),
+          ap (λ words. is_member nat_eq words at.0) words_of_roots
+              ∙ holds (λ (root : Root). root.1) s.roots name at.0 at.1 (ap (λ names. is_member nat_eq names name) (sym (root_names_are s.roots)) ∙ m),
         ),
       ))
       (λ (word, m, at). (word, at, inr (present name word at, ap (λ words. is_member nat_eq words word) (sym h.represents.stack) ∙ m)))
@@ -138,7 +149,8 @@ module _ (v : View) (s : State) (h : Holds v s) where
         to.1,
         and_from _ _ (present name to.0 to.1)
             (ap (λ words. is_member nat_eq words to.0) (words_of_fields parent address from)
-            ∙ holds (λ (value : Value). value) (item_of s.graph parent).values name to.0 to.1 (ap (λ names. is_member nat_eq names name) (sym (children_are s.graph parent)) ∙ child)),
+            ∙ holds (λ (value : Value). value) (item_of s.graph parent).values name to.0 to.1
+            (ap (λ names. is_member nat_eq names name) (sym (children_are s.graph parent)) ∙ child)),
       )
 
   -- a reached name has a place, and is reached there
@@ -168,14 +180,15 @@ module _ (v : View) (s : State) (h : Holds v s) where
       let r = held_by (λ (root : Root). root.1) s.roots address is (ap (λ words. is_member nat_eq words address) (sym words_of_roots) ∙ m) in
       (r.0, r.2, inl (ap (λ names. is_member nat_eq names r.0) (root_names_are s.roots) ∙ r.1)))
       (λ (is, m).
-      let at = h.represents.objects.only address is in
+      let at = h.represents.heap.objects.only address is in
       ((object_of v.heap address).name, at, inr (address, ap (λ words. is_member nat_eq words address) h.represents.stack ∙ m, at)))
       start
 
   child_reached : (address other name : ℕ) → IsAt name address → heap.IsChild v.heap address other → (its : ℕ) × IsAt its other × IsChild s.graph name its
   child_reached address other name at child =
       let c = and_parts _ _ child in
-      let r = held_by (λ (value : Value). value) (item_of s.graph name).values other c.0 (ap (λ words. is_member nat_eq words other) (sym (words_of_fields name address at)) ∙ c.1) in
+      let r = held_by (λ (value : Value). value) (item_of s.graph name).values other c.0
+      (ap (λ words. is_member nat_eq words other) (sym (words_of_fields name address at)) ∙ c.1) in
       (r.0, r.2, ap (λ names. is_member nat_eq names r.0) (children_are s.graph name) ∙ r.1)
 
   -- a reached object has a name, which is reached
@@ -192,7 +205,8 @@ module _ (v : View) (s : State) (h : Holds v s) where
       (r.0, r.1, IsReached-start (IsChild s.graph) (IsStart s) r.0 r.2))
 
   -- what is reached in the heap is an object, and its name is reached
-  pub reached_from_live : (address : ℕ) → IsLive v.heap (root_words v.roots) v.stack address → (is_object v.heap address ≡ true) × Reach s (object_of v.heap address).name
+  pub reached_from_live : (address : ℕ) → IsLive v.heap (root_words v.roots) v.stack address →
+      (is_object v.heap address ≡ true) × Reach s (object_of v.heap address).name
   reached_from_live address live =
       let r = live_reached address live in
       (present r.0 address r.1, subst (Reach s) (sym (named r.0 address r.1)) r.2)
@@ -204,9 +218,9 @@ module _ (v : View) (s : State) (h : Holds v s) where
     once = IsDistinct-map (name_at v.heap) count.names
         (λ a b m n same.
         some_same a b (
-        sym (h.represents.objects.only a (reached_from_live a ((count.are a).0 m)).0)
+        sym (h.represents.heap.objects.only a (reached_from_live a ((count.are a).0 m)).0)
         ∙ ap (get s.heap.place) same
-        ∙ h.represents.objects.only b (reached_from_live b ((count.are b).0 n)).0))
+        ∙ h.represents.heap.objects.only b (reached_from_live b ((count.are b).0 n)).0))
         count.once;
     are = λ name. (
       λ m.

@@ -1,9 +1,8 @@
 -- Roots with the words of their values.
-use Rattle.std.proofs.Common.{◌≡◌, ℕ, List, [], ◌∷◌, true, map, nat_eq, refl, ap, Option, ⊎_elim}
+use Rattle.std.proofs.Common.{◌≡◌, ℕ, List, [], ◌∷◌, true, nat_eq, refl, ap, Option, ⊎_elim}
 use Rattle.std.specs.Option.{option_map, unwrap_or}
 use Rattle.std.specs.Ordering.{nat_cmp}
 use Rattle.std.specs.FinMap.{FinMap, get, insert, gets}
-use Rattle.std.specs.List.{flat_map}
 use Rattle.std.specs.Set.{is_member}
 use Rattle.std.specs.Str.{bytes_eq}
 use Rattle.std.proofs.Common.{rules}
@@ -19,7 +18,8 @@ use Rattle.space_engine.specs.Words.{word_roots}
 
 module _ (place : FinMap nat_cmp ℕ) where
   -- the word of a root is that of its value
-  pub root_word-word_roots : (roots : List Root) (name : List ℕ) → root_word (word_roots place roots) name ≡ option_map (value_word place) (root_value roots name)
+  pub root_word-word_roots : (roots : List Root) (name : List ℕ) →
+      root_word (word_roots place roots) name ≡ option_map (value_word place) (root_value roots name)
   root_word-word_roots [] name = refl
   root_word-word_roots (root ∷ roots) name = ⊎_elim
       (λ t. rw t refl)
@@ -27,7 +27,8 @@ module _ (place : FinMap nat_cmp ℕ) where
       (cases_Bool (bytes_eq name root.0))
 
   -- to write a value is to write its word
-  pub with_root_word-word_roots : (roots : List Root) (name : List ℕ) (value : Value) → with_root_word (word_roots place roots) name (value_word place value) ≡ word_roots place (with_root roots name value)
+  pub with_root_word-word_roots : (roots : List Root) (name : List ℕ) (value : Value) →
+      with_root_word (word_roots place roots) name (value_word place value) ≡ word_roots place (with_root roots name value)
   with_root_word-word_roots [] name value = refl
   with_root_word-word_roots (root ∷ roots) name value = ⊎_elim
       (λ t. rw t refl)
@@ -47,26 +48,19 @@ module _ (place : FinMap nat_cmp ℕ) where
     get_other name other = grind (gets, rules)
 
     -- the word of a value stays, where another object is placed
-    value_word-insert : (value : Value) → ((n : ℕ) → is_member nat_eq (names_of value) n ≡ true → n ≡ fresh → ⊥) → value_word (insert place fresh address) value ≡ value_word place value
+    pub value_word-insert : (value : Value) → ((n : ℕ) → is_member nat_eq (names_of value) n ≡ true → n ≡ fresh → ⊥) →
+        value_word (insert place fresh address) value ≡ value_word place value
     value_word-insert Nil other = refl
     value_word-insert (Small number) other = refl
     value_word-insert (Name name) other = ap (λ (o : Option ℕ). unwrap_or o 0) (get_other name (other name (or_left _ _ (eq-eqb name name refl))))
 
     -- and so do the words of the roots
-    pub word_roots-insert : (roots : List Root) → ((n : ℕ) → is_member nat_eq (root_names roots) n ≡ true → n ≡ fresh → ⊥) → word_roots (insert place fresh address) roots ≡ word_roots place roots
+    pub word_roots-insert : (roots : List Root) → ((n : ℕ) → is_member nat_eq (root_names roots) n ≡ true → n ≡ fresh → ⊥) →
+        word_roots (insert place fresh address) roots ≡ word_roots place roots
     unfolding root_names
     word_roots-insert [] other = refl
     word_roots-insert (root ∷ roots) other =
         rw (
           value_word-insert root.1 (λ n m. other n (member_left (names_of root.1) (root_names roots) n m)),
           word_roots-insert roots (λ n m. other n (member_right (names_of root.1) (root_names roots) n m)),
-        ) refl
-
-    -- and the words of fields
-    pub words-insert : (values : List Value) → ((n : ℕ) → is_member nat_eq (flat_map names_of values) n ≡ true → n ≡ fresh → ⊥) → map (value_word (insert place fresh address)) values ≡ map (value_word place) values
-    words-insert [] other = refl
-    words-insert (value ∷ values) other =
-        rw (
-          value_word-insert value (λ n m. other n (member_left (names_of value) (flat_map names_of values) n m)),
-          words-insert values (λ n m. other n (member_right (names_of value) (flat_map names_of values) n m)),
         ) refl

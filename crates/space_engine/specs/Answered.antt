@@ -1,4 +1,4 @@
--- A command that was answered, with its events written, or a front of them.
+-- A command that was answered, with its events written, or a prefix of them.
 use Rattle.std.specs.Prelude.{◌≡◌, ℕ, List, map, Option}
 use Rattle.std.specs.Io.KnownBytes.{Appends}
 use Rattle.space_io.specs.Sinks.{AppendsPrefix}
@@ -12,6 +12,7 @@ use Rattle.space_model.specs.Texts.{AreSpelled, text_of, reply_pieces}
 use Rattle.space_engine.specs.Counting.{no_counts, counts_of}
 use Rattle.space_engine.specs.Stands.{Holds}
 use Rattle.space_engine.specs.Steps.{AnswersWith}
+use Rattle.space_engine.specs.Ticks.{IsTicked}
 use Rattle.space_engine.specs.Views.{View}
 
 -- the events and the reply are lawful from each state that the view holds, and the events can be spelled
@@ -19,14 +20,15 @@ pub record IsLawfulAnswer (old new : View) (command : Command) (events : List Ev
   pub answers : (s : State) → Holds old s → AnswersWith s new command events reply
   pub spelled : (s : State) → Holds old s → AreSpelled (map Told events)
 
--- some events and the reply are lawful, the events were written, and they tell of so many gone objects
-pub record IsAnswered (old new : View) (command : Command) (reply : Reply) (gone : ℕ) (before after : Option (List ℕ)) : Type 0 where
+-- some events and the reply are lawful, the events were written, they tell of so many gone objects, and the ledger's count rose as they tell
+pub record IsAnswered (old new : View) (command : Command) (reply : Reply) (gone : ℕ) (before after : Option (List ℕ)) (ticks ticked : ℕ) : Type 0 where
   pub events : List Event
   pub lawful : IsLawfulAnswer old new command events reply
   pub counted : counts_of (map Told events) ≡ record no_counts { gone = gone }
   pub written : Appends before after (text_of (map Told events))
+  pub ticks_are : (s : State) → Holds old s → IsTicked s command events reply ticks ticked
 
--- some events and a reply that can be spelled are lawful, and a front of the text of the events was written
+-- some events and a reply that can be spelled are lawful, and a prefix of the text of the events was written
 pub record IsCutOff (old new : View) (command : Command) (before after : Option (List ℕ)) : Type 0 where
   pub events : List Event
   pub reply : Reply

@@ -1,6 +1,7 @@
 pub mod Views
 pub mod Inside
-pub mod Births
+pub mod Allocations
+pub mod WholeCollections
 pub mod Words
 pub mod Turns
 pub mod Stands

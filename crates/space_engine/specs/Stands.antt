@@ -1,73 +1,86 @@
--- Which states a space stands for.
-use Rattle.std.specs.Prelude.{◌≡◌, ◌↔◌, ℕ, true, false, List, length, map, Some}
-use Rattle.std.specs.FinMap.{FinMap, get, empty}
+-- Which states a space stands for, in every phase: also while pages wait for a sweep, and while objects move.
+use Rattle.std.specs.Prelude.{◌≡◌, ◌≢◌, ℕ, true, false, List, [], length, Option, Some}
+use Rattle.std.specs.FinMap.{FinMap, get}
 use Rattle.std.specs.Ordering.{nat_cmp}
-use Rattle.space_model.specs.declared.phase.Phase.TheVariants.{Idle}
+use Rattle.space_model.specs.declared.phase.Phase.{Phase}
+use Rattle.space_model.specs.declared.phase.Phase.TheVariants.{Marking}
 use Rattle.space_model.specs.Graph.{Item, item_of}
-use Rattle.space_model.specs.Operands.{value_word}
 use Rattle.space_model.specs.Pages.{pool_at as pool_of_page}
-use Rattle.space_model.specs.Places.{IsFree}
 use Rattle.space_model.specs.Sound.{Sound}
-use Rattle.space_model.specs.State.{State}
+use Rattle.space_model.specs.State.{Heap, Collector, Counters, State}
 use Rattle.space_heap.specs.Slots.{ObjectView}
-use Rattle.space_heap.specs.HeapView.{HeapView, pool_at}
-use Rattle.space_heap.specs.Objects.{stands, is_object, object_of, HasNoMoved}
-use Rattle.space_heap.specs.FreeSlots.{IsFreeAt}
+use Rattle.space_heap.specs.HeapView.{HeapView, Counters as HeapCounters, pool_at}
+use Rattle.space_heap.specs.Objects.{is_occupied, is_object, object_of, is_moved, resolved}
+use Rattle.space_model.specs.StoredWords.{stored_words}
 use Rattle.space_engine.specs.Views.{View, SpaceView}
-use Rattle.space_engine.specs.Words.{word_roots}
+use Rattle.space_engine.specs.Words.{word_roots, resolved_roots}
 
--- the object has this name, and the item's guard and style, and the words of its values
-pub record IsObjectOf (place : FinMap nat_cmp ℕ) (name : ℕ) (item : Item) (object : ObjectView) : Type 0 where
+-- the object has this name, the item's guard and style, and the stored words of its values
+pub record IsObjectOf (place left : FinMap nat_cmp ℕ) (stale : List (ℕ × ℕ)) (name : ℕ) (item : Item) (object : ObjectView) : Type 0 where
   pub named : object.name ≡ name
   pub guard : object.guard ≡ item.guard
   pub style : object.style ≡ item.style
-  pub fields : object.fields ≡ map (value_word place) item.values
+  pub fields : object.fields ≡ stored_words place left stale name item.values
 
--- the objects are the present names, each at its place
-pub record HasObjects (graph : List Item) (place : FinMap nat_cmp ℕ) (heap : HeapView) : Type 0 where
+-- the objects that aren't gone are the present names, each at its place
+pub record HasObjects (graph : List Item) (place left : FinMap nat_cmp ℕ) (stale : List (ℕ × ℕ)) (heap : HeapView) : Type 0 where
   pub stands : (name address : ℕ) → get place name ≡ Some address → is_object heap address ≡ true
-  pub is : (name address : ℕ) → get place name ≡ Some address → IsObjectOf place name (item_of graph name) (object_of heap address)
+  pub is : (name address : ℕ) → get place name ≡ Some address → IsObjectOf place left stale name (item_of graph name) (object_of heap address)
   pub only : (address : ℕ) → is_object heap address ≡ true → get place (object_of heap address).name ≡ Some address
-
--- the heap has the pages of the state, and the same addresses are free
-pub record HasPages (s : State) (heap : HeapView) : Type 0 where
-  pub count : length s.heap.pages ≡ length heap.pages
-  pub pools : (page : ℕ) → pool_of_page s.heap.pages page ≡ pool_at heap page
-  pub limit : s.heap.limit ≡ heap.limit
-  pub free : (pool address : ℕ) → IsFree s pool address ↔ IsFreeAt heap pool address
 
 -- the objects that are gone and not swept are the corpses, each at its last address
 pub record HasCorpses (corpses : FinMap nat_cmp ℕ) (heap : HeapView) : Type 0 where
-  pub lies : (name address : ℕ) → get corpses name ≡ Some address → stands heap address ≡ true
+  pub lies : (name address : ℕ) → get corpses name ≡ Some address → is_occupied heap address ≡ true
   pub gone : (name address : ℕ) → get corpses name ≡ Some address → is_object heap address ≡ false
   pub named : (name address : ℕ) → get corpses name ≡ Some address → (object_of heap address).name ≡ name
-  pub only : (address : ℕ) → stands heap address ≡ true → is_object heap address ≡ false → get corpses (object_of heap address).name ≡ Some address
+  pub only : (address : ℕ) → is_occupied heap address ≡ true → is_object heap address ≡ false → get corpses (object_of heap address).name ≡ Some address
 
--- the heap is at what the state's collector is at, and as many objects were born
-pub record HasProgress (s : State) (heap : HeapView) : Type 0 where
-  pub phase : heap.phase ≡ s.collector.phase
-  pub unswept : s.heap.unswept ≡ heap.unswept
-  pub born : heap.counters.born ≡ length s.graph
+-- the slots from which objects were moved are those that names left, and each leads to the place of its name
+pub record HasLeft (place left : FinMap nat_cmp ℕ) (heap : HeapView) : Type 0 where
+  pub lies : (name address : ℕ) → get left name ≡ Some address → is_moved heap address ≡ true
+  pub leads : (name address : ℕ) → get left name ≡ Some address → get place name ≡ Some (resolved heap address)
+  pub only : (address : ℕ) → is_moved heap address ≡ true → (name : ℕ) × (get left name ≡ Some address)
 
--- nothing was moved
-pub record IsUnmoved (s : State) (heap : HeapView) : Type 0 where
-  pub left : s.heap.left ≡ empty
-  pub none : HasNoMoved heap
+-- the heap has these pages, and the same of them wait for a sweep. Which addresses are free follows from what stands, lies or was left there
+pub record HasPages (pages : List (Option ℕ)) (limit : ℕ) (unswept : List ℕ) (heap : HeapView) : Type 0 where
+  pub count : length pages ≡ length heap.pages
+  pub pools : (page : ℕ) → pool_of_page pages page ≡ pool_at heap page
+  pub limited : limit ≡ heap.limit
+  pub waiting : unswept ≡ heap.unswept
 
--- the view has what the state has, and of each root the word of its value
+-- the heap is at what the collector is at, and nothing is grey but in a marking
+pub record HasProgress (phase : Phase) (cursor : ℕ) (heap : HeapView) : Type 0 where
+  pub at : heap.phase ≡ phase
+  pub until : heap.cursor ≡ cursor
+  pub none_grey : phase ≢ Marking → heap.grey ≡ []
+
+-- the heap counted the same, and so many objects were allocated
+pub record HasCounted (born : ℕ) (counters : Counters) (counted : HeapCounters) : Type 0 where
+  pub allocated : counted.born ≡ born
+  pub minor_verdicts : counted.minor_verdicts ≡ counters.minor_verdicts
+  pub other_verdicts : counted.other_verdicts ≡ counters.other_verdicts
+  pub freed : counted.freed ≡ counters.freed
+  pub compactions : counted.compactions ≡ counters.compactions
+  pub moves : counted.moves ≡ counters.moves
+
+-- the heap's half: it has what these parts of a state have, whatever roots and stack hold
+pub record HeapRepresents (graph : List Item) (own : Heap) (collector : Collector) (counters : Counters) (heap : HeapView) : Type 0 where
+  pub objects : HasObjects graph own.place own.left collector.stale heap
+  pub corpses : HasCorpses own.corpses heap
+  pub left : HasLeft own.place own.left heap
+  pub pages : HasPages own.pages own.limit own.unswept heap
+  pub progress : HasProgress collector.phase collector.cursor heap
+  pub counted : HasCounted (length graph) counters heap.counters
+
+-- the view has what the state has: the words of roots are those of their values, once they are resolved, and the stack's are the same
 pub record Represents (v : View) (s : State) : Type 0 where
-  pub objects : HasObjects s.graph s.heap.place v.heap
-  pub corpses : HasCorpses s.heap.corpses v.heap
-  pub pages : HasPages s v.heap
-  pub progress : HasProgress s v.heap
-  pub unmoved : IsUnmoved s v.heap
-  pub roots : v.roots ≡ word_roots s.heap.place s.roots
+  pub heap : HeapRepresents s.graph s.heap s.collector s.counters v.heap
+  pub roots : resolved_roots v.heap v.roots ≡ word_roots s.heap.place s.roots
   pub stack : s.stack ≡ v.stack
 
--- the view has what a sound state has, in which nothing is under way
+-- the view has what a sound state has
 pub record Holds (v : View) (s : State) : Type 0 where
   pub represents : Represents v s
-  pub idle : s.collector.phase ≡ Idle
   pub sound : Sound s
 
 -- the space stands for the state

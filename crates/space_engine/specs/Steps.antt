@@ -1,12 +1,12 @@
 -- What a step of the space does.
-use Rattle.std.specs.Prelude.{◌≡◌, ℕ, List, [], Option}
+use Rattle.std.specs.Prelude.{◌≡◌, ℕ, List, [], ◌∷◌, Option}
 use Rattle.std.specs.Io.KnownBytes.{Appends}
 use Rattle.space_model.specs.declared.command.Command.{Command}
+use Rattle.space_model.specs.declared.command.Command.TheVariants.{New, Gc}
 use Rattle.space_model.specs.declared.event.Event.{Event}
-use Rattle.space_model.specs.declared.phase.Phase.TheVariants.{Idle}
 use Rattle.space_model.specs.declared.reply.Reply.{Reply}
-use Rattle.space_model.specs.Lawful.{Effects, Lawful}
-use Rattle.space_model.specs.Outputs.{Output}
+use Rattle.space_model.specs.Lawful.{Effects, Lawful, Replies}
+use Rattle.space_model.specs.Outputs.{Output, Replied}
 use Rattle.space_model.specs.State.{State}
 use Rattle.space_model.specs.Texts.{AreSpelled, text_of}
 use Rattle.space_engine.specs.declared.counts.Counts.{Counts}
@@ -15,16 +15,23 @@ use Rattle.space_engine.specs.Views.{View, SpaceView}
 use Rattle.space_engine.specs.Stands.{Represents, Stands}
 use Rattle.space_engine.specs.Ticks.{AreTicked}
 
--- the events and the reply are lawful, the view has what the state after them has, and nothing is under way there
+-- the command tells no events
+abbrev pub IsQuiet : Command → Type 0
+IsQuiet (New root fields guard style) = ⊥
+IsQuiet Gc = ⊥
+IsQuiet _ = Unit {0}
+
+-- the reply to a command that tells no events is lawful, and the view has what the state after it has
+pub record Answers (s : State) (new : View) (command : Command) (reply : Reply) : Type 0 where
+  pub state : State
+  pub represents : Represents new state
+  pub replies : Replies s command reply state
+
+-- the events and the reply are lawful, and the view has what the state after them has
 pub record AnswersWith (s : State) (new : View) (command : Command) (events : List Event) (reply : Reply) : Type 0 where
   pub state : State
   pub represents : Represents new state
-  pub idle : state.collector.phase ≡ Idle
-  pub effects : Effects s command events reply state
-
--- the same, without events
-abbrev pub Answers : State → View → Command → Reply → Type 0
-Answers s new command reply = AnswersWith s new command [] reply
+  pub effects : Effects s command events (Replied reply ∷ []) state
 
 -- the outputs of the command are lawful, the space stands for the state after them, and IsSo holds of the outputs
 pub record StepsFrom (s : State) (new : SpaceView) (command : Command) (IsSo : List Output → Type 0) : Type 0 where
@@ -36,11 +43,12 @@ pub record StepsFrom (s : State) (new : SpaceView) (command : Command) (IsSo : L
   pub so : IsSo outputs
 
 -- the same, from each state that the space stands for
-abbrev pub Steps : SpaceView → SpaceView → Command → (List Output → Type 0) → Type 0
-Steps old new command IsSo = (s : State) → Stands old s → StepsFrom s new command IsSo
+abbrev pub LawfulSteps : SpaceView → SpaceView → Command → (State → List Output → Type 0) → Type 0
+LawfulSteps old new command IsSo = (s : State) → Stands old s → StepsFrom s new command (IsSo s)
 
 -- the outputs were counted and written, and the ledger's count rose as they tell
-pub record AreDone (command : Command) (counts : Counts) (before after : Option (List ℕ)) (before_ticks after_ticks : ℕ) (outputs : List Output) : Type 0 where
+pub record AreDone (s : State) (command : Command) (counts : Counts) (before after : Option (List ℕ)) (before_ticks after_ticks : ℕ)
+    (outputs : List Output) : Type 0 where
   pub counted : counts ≡ counts_of outputs
   pub written : Appends before after (text_of outputs)
-  pub ticked : AreTicked command outputs before_ticks after_ticks
+  pub ticked : AreTicked s command outputs before_ticks after_ticks

@@ -1,23 +1,46 @@
 -- How far the ledger's count rises by a command.
-use Rattle.std.specs.Prelude.{◌≡◌, ℕ, ◌+◌, List, [], ◌∷◌}
+use Rattle.std.specs.Prelude.{◌≡◌, ℕ, ◌+◌, ◌^◌, ◌≤◌, ◌<◌, List, [], ◌∷◌, ◌++◌, map}
 use Rattle.space_model.specs.declared.command.Command.{Command}
 use Rattle.space_model.specs.declared.command.Command.TheVariants.{New, Load, Gc}
+use Rattle.space_model.specs.declared.event.Event.{Event}
 use Rattle.space_model.specs.declared.reply.Reply.{Reply}
 use Rattle.space_model.specs.declared.reply.Reply.TheVariants.{Scanned, Refused}
+use Rattle.space_model.specs.Completions.{Completes}
+use Rattle.space_model.specs.Counts.{CountIs}
 use Rattle.space_model.specs.Outputs.{Output, Told, Replied}
-use Rattle.space_collector.specs.Ticks.{RisesByFewer}
+use Rattle.space_model.specs.Reach.{Reach}
+use Rattle.space_model.specs.State.{State}
 
--- by the command and its reply: in `gc` by the scans that it tells; in `load` by one, where a field was read; in `new`, which may collect
--- first, by fewer than 2 ^ 26; else not at all
-abbrev pub IsTicked : Command → Reply → ℕ → ℕ → Type 0
-IsTicked Gc (Scanned count) before after = after ≡ before + count
-IsTicked (Load root object index) (Refused why) before after = after ≡ before
-IsTicked (Load root object index) reply before after = after ≡ before + 1
-IsTicked (New root fields guard style) reply before after = RisesByFewer before after
-IsTicked command reply before after = after ≡ before
+-- whatever is written, the count rises by fewer than 2 ^ 26, which is more than a heap has slots, or stays
+abbrev pub RisesByFewer : ℕ → ℕ → Type 0
+RisesByFewer before after = (before ≤ after) × (after < before + 2 ^ 26)
+
+-- a command that tells no events: in `load` by one, where a field was read, and else not at all
+abbrev pub IsReplyTicked : Command → Reply → ℕ → ℕ → Type 0
+IsReplyTicked (Load root object index) (Refused why) before after = after ≡ before
+IsReplyTicked (Load root object index) reply before after = after ≡ before + 1
+IsReplyTicked command reply before after = after ≡ before
+
+-- a whole collection: once for each name that is reached when its marking starts, which is when what was under way is completed
+pub record IsMarkingTicked (s : State) (before after : ℕ) : Type 0 where
+  pub idle : State
+  pub completion : List Event
+  pub completes : Completes s completion idle
+  pub scans : ℕ
+  pub scanned : CountIs (Reach idle) scans
+  pub ticked : after ≡ before + scans
+
+-- by the command, its events and its reply: in `gc` by the scans that the reply tells; in `new`, which tells events only where it collects,
+-- by the scans of that collection, and without one not at all
+abbrev pub IsTicked : State → Command → List Event → Reply → ℕ → ℕ → Type 0
+IsTicked s Gc events (Scanned count) before after = after ≡ before + count
+IsTicked s (New root fields guard style) [] reply before after = after ≡ before
+IsTicked s (New root fields guard style) (event ∷ events) reply before after = IsMarkingTicked s before after
+IsTicked s command events reply before after = IsReplyTicked command reply before after
 
 -- the same, by the command and its outputs
-abbrev pub AreTicked : Command → List Output → ℕ → ℕ → Type 0
-AreTicked command [] before after = Unit {0}
-AreTicked command (Told event ∷ outputs) before after = AreTicked command outputs before after
-AreTicked command (Replied reply ∷ outputs) before after = IsTicked command reply before after × AreTicked command outputs before after
+pub record AreTicked (s : State) (command : Command) (outputs : List Output) (before after : ℕ) : Type 0 where
+  pub events : List Event
+  pub reply : Reply
+  pub outputs_are : outputs ≡ map Told events ++ Replied reply ∷ []
+  pub ticked : IsTicked s command events reply before after

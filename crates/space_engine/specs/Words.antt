@@ -21,6 +21,10 @@ use Rattle.space_engine.specs.Views.{View}
 abbrev pub word_roots : FinMap nat_cmp ℕ → List Root → List (List ℕ × ℕ)
 word_roots place roots = map (λ (root : Root). (root.0, value_word place root.1)) roots
 
+-- the roots, each with its word resolved
+abbrev pub resolved_roots : HeapView → List (List ℕ × ℕ) → List (List ℕ × ℕ)
+resolved_roots heap words = map (λ (root : List ℕ × ℕ). (root.0, resolved heap root.1)) words
+
 -- the word of an operand: that of the root, resolved, or the word of the stack at that place from the top
 abbrev pub operand_word : View → Operand → Result ℕ Refusal
 operand_word v (RootOperand name) = ok_or (option_map (resolved v.heap) (root_word v.roots name)) NoRoot

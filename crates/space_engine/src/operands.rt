@@ -1,6 +1,6 @@
 // How refusals are found, and how values are compared.
 ghost use Rattle.std.specs.Prelude.{◌≡◌};
-ghost use Rattle.space_model.specs.Answers.{is_same_value};
+ghost use Rattle.space_model.specs.ObjectCommands.{is_same_value};
 ghost use Rattle.space_model.specs.Refusals.{rank as rank_of, first_refusal, both as both_results};
 
 use space_model::{Refusal, Value};

@@ -2,12 +2,12 @@
 ghost use Rattle.std.specs.Prelude.{◌≡◌, ◌≤◌, ◌<◌, ◌+◌, ◌^◌, false, IfOk, OnErr, is_err};
 ghost use Rattle.space_io.specs.Causes.{HasCause};
 ghost use Rattle.space_io.specs.Sinks.{AppendsPrefix};
-ghost use Rattle.space_model.specs.GivenIntegers.{IsGivenSmall};
+ghost use Rattle.space_model.specs.Given.{IsGiven};
 ghost use Rattle.space_model.specs.State.{State, opening};
 ghost use Rattle.space_model.specs.Texts.{text_of};
-ghost use Rattle.space_collector.specs.Ticks.{RisesByFewer};
+ghost use Rattle.space_engine.specs.Ticks.{RisesByFewer};
 ghost use Rattle.space_engine.specs.Stands.{Stands};
-ghost use Rattle.space_engine.specs.Steps.{AreDone, Steps as LawfulSteps};
+ghost use Rattle.space_engine.specs.Steps.{AreDone, LawfulSteps};
 ghost use Rattle.space_engine.specs.Views.{empty_space};
 
 use crate::counts::{Counts, counts_of_answer};
@@ -78,7 +78,7 @@ impl Space {
 
     /// Answers a command: writes its events, and then its reply, a line each. The answer counts them.
     ///
-    /// An `Err` comes only after a failed write. The command is done then too, a front of its lines was written, and the space
+    /// An `Err` comes only after a failed write. The command is done then too, a prefix of its lines was written, and the space
     /// is spent: it takes no further command. The ledger counts each reading of an object's fields.
     pub fn step<K: Sink, L: Ledger>(
         &mut self,
@@ -87,14 +87,14 @@ impl Space {
         steps: &mut Steps<L>,
     ) -> Result<Counts, StepFault>
         requires able { self.old.is_spent ≡ false }
-        requires given { IsGivenSmall command.now }
+        requires given { IsGiven command.now }
         requires turns { self.old.turns < 2 ^ 34 }
         requires steps { steps.old < 2 ^ 62 }
 
         // The outputs are lawful, from each state that the space stands for, and it stands for a state after them. They
         // were written, and the counts are theirs. The ledger's count rises as they tell.
-        ensures done { IfOk result (λ counts. LawfulSteps self.old self.new command.now (AreDone command.now counts (K.written sink.old) (K.written sink.new) steps.old steps.new)) }
-        ensures fault { OnErr result (LawfulSteps self.old self.new command.now (λ outputs. AppendsPrefix (K.written sink.old) (K.written sink.new) (text_of outputs))) }
+        ensures done { IfOk result (λ counts. LawfulSteps self.old self.new command.now (λ s outputs. AreDone s command.now counts (K.written sink.old) (K.written sink.new) steps.old steps.new outputs)) }
+        ensures fault { OnErr result (LawfulSteps self.old self.new command.now (λ s outputs. AppendsPrefix (K.written sink.old) (K.written sink.new) (text_of outputs))) }
         ensures cause { HasCause (K.faults sink.old) (K.faults sink.new) result }
         ensures spent { self.new.is_spent ≡ is_err result }
         ensures turns { self.new.turns ≡ self.old.turns + 1 }

@@ -1,31 +1,31 @@
-// The command that makes objects.
-ghost use Rattle.std.specs.Prelude.{◌≡◌, ◌≤◌, ◌<◌, ◌+◌, ◌^◌, length, if◌then◌else◌, None, Err, IfOk, OnOk, OnErr, IsSome, IsTrue};
+// The command that makes objects: a place for its root, an allocation, and where there is no room a whole collection and
+// one more allocation.
+ghost use Rattle.std.specs.Prelude.{◌≡◌, ◌≤◌, ◌<◌, ◌^◌, length, if◌then◌else◌, None, Err, IfOk, OnOk, OnErr, IsSome};
 ghost use Rattle.space_io.specs.Causes.{HasCause};
 ghost use Rattle.space_model.specs.declared.command.Command.TheVariants.{New};
 ghost use Rattle.space_model.specs.Layout.{pool_for as pool_of_fields};
+ghost use Rattle.space_heap.specs.Allocations.{LacksRoom, NeedsNewPage};
+ghost use Rattle.space_heap.specs.SoundHeap.{IsSoundHeap};
 ghost use Rattle.space_roots.specs.WordRoots.{root_word};
+ghost use Rattle.space_engine.specs.Ticks.{RisesByFewer};
+ghost use Rattle.space_engine.specs.Allocations.{IsLastReply, IsReserved, IsRootedAllocation};
 ghost use Rattle.space_engine.specs.Answered.{IsAnswered, IsCutOff};
-ghost use Rattle.space_collector.specs.Births.{IsBirth, LacksRoom, WantsPage};
-ghost use Rattle.space_collector.specs.Ticks.{RisesByFewer};
-ghost use Rattle.space_engine.specs.Births.{IsLastReply, IsRootedBirth, WantsMemory};
-ghost use Rattle.space_engine.specs.Turns.{CanAnswer, GoesOn};
-ghost use Rattle.space_engine.specs.Views.{with_heap, with_root_dropped, with_root_reserved, with_root_written};
+ghost use Rattle.space_engine.specs.Turns.{CanAnswer, IsOneTurn};
+ghost use Rattle.space_engine.specs.Views.{View, with_root_dropped, with_root_written};
 
-use super::{Answer, Engine};
-use space_collector::{Unborn, bear, collect};
-use space_heap::Made;
+use super::{Answer, Engine, silent};
+use space_heap::{Made, PageFault};
 use space_io::{Sink, WriteFault};
 use space_model::{Guard, Ident, Ledger, MOST_FIELDS, Refusal, Reply, Steps, Style, pool_for};
 use std::alloc::AllocError as NoMemory;
 
 impl Engine {
-    // Makes a place for the root, which tells whether it is new. An `Err` changes nothing.
+    // Makes a place for the root, and tells whether it is new. An `Err` changes nothing.
     fn reserve_root(&mut self, root: &Ident) -> Result<bool, NoMemory>
-        ensures ok { IfOk result (λ added. self.new ≡ with_root_reserved self.old root.now added) }
+        ensures ok { IfOk result (λ is_new. IsReserved self.old self.new root.now is_new) }
         ensures there { OnOk result (IsSome (root_word self.new.roots root.now)) }
-        ensures absent { IfOk result (λ added. IsTrue added → root_word self.old.roots root.now ≡ None) }
         ensures err { OnErr result (self.new ≡ self.old) }
-        ensures wanted { OnErr result (root_word self.old.roots root.now ≡ None) }
+        ensures absent { OnErr result (root_word self.old.roots root.now ≡ None) }
     {
         self.roots.reserve_for(*root)
     }
@@ -49,66 +49,30 @@ impl Engine {
         }
     }
 
-    // Adds an object, which no root holds yet. An `Err` changes nothing.
-    fn bear(&mut self, fields: u64, guard: Guard, style: Style) -> Result<Made, Unborn>
-        requires few { fields ≤ MOST_FIELDS }
-        requires names { self.old.heap.counters.born < 2 ^ 62 }
-        ensures born { IfOk result (λ made. IsBirth self.old.heap self.new.heap fields guard style made.name made.address) }
-        ensures rest { self.new ≡ with_heap self.old self.new.heap }
-        ensures full { result ≡ Err Unborn.Full → LacksRoom self.old.heap (pool_of_fields fields) }
-        ensures no_memory { result ≡ Err Unborn.NoMemory → WantsPage self.old.heap (pool_of_fields fields) }
-        ensures failed { OnErr result (self.new ≡ self.old) }
-    {
-        bear(&mut self.heap, fields, guard, style)
-    }
-
-    // Adds an object, and the root, whose place was made, holds it. An `Err` changes nothing but that a new root is taken
-    // away again.
-    fn add_reserved(
+    // Allocates an object, and the root, whose place was made, holds it. An `Err` changes nothing.
+    fn add(
         &mut self,
         root: &Ident,
-        is_new: bool,
         fields: u64,
         guard: Guard,
         style: Style,
-    ) -> Result<Made, Unborn>
+    ) -> Result<Made, PageFault>
         requires few { fields ≤ MOST_FIELDS }
         requires names { self.old.heap.counters.born < 2 ^ 62 }
         requires there { IsSome (root_word self.old.roots root.now) }
-        ensures born { IfOk result (λ made. IsRootedBirth self.old self.new root.now fields guard style made.name made.address) }
-        ensures full { result ≡ Err Unborn.Full → LacksRoom self.old.heap (pool_of_fields fields) }
-        ensures no_memory { result ≡ Err Unborn.NoMemory → WantsPage self.old.heap (pool_of_fields fields) }
-        ensures failed { OnErr result (self.new ≡ (if is_new then with_root_dropped self.old root.now else self.old)) }
-    {
-        match self.bear(fields, guard, style) {
-            Ok(made) => {
-                self.hold(root, made.address);
-                Ok(made)
-            }
-            Err(why) => {
-                self.free_root(root, is_new);
-                Err(why)
-            }
-        }
-    }
-
-    // Adds an object, and the root holds it. An `Err` changes nothing.
-    fn add(&mut self, root: &Ident, fields: u64, guard: Guard, style: Style) -> Result<Made, Unborn>
-        requires few { fields ≤ MOST_FIELDS }
-        requires names { self.old.heap.counters.born < 2 ^ 62 }
-        ensures born { IfOk result (λ made. IsRootedBirth self.old self.new root.now fields guard style made.name made.address) }
-        ensures full { result ≡ Err Unborn.Full → LacksRoom self.old.heap (pool_of_fields fields) }
-        ensures no_memory { result ≡ Err Unborn.NoMemory → WantsMemory self.old root.now (pool_of_fields fields) }
+        ensures allocated { IfOk result (λ made. IsRootedAllocation self.old self.new root.now fields guard style made.name made.address) }
+        ensures at_limit { result ≡ Err PageFault.AtLimit → LacksRoom self.old.heap (pool_of_fields fields) }
+        ensures no_memory { result ≡ Err PageFault.NoMemory → NeedsNewPage self.old.heap (pool_of_fields fields) }
         ensures failed { OnErr result (self.new ≡ self.old) }
+        ensures sound { IsSoundHeap self.old.heap }
     {
-        let is_new = match self.reserve_root(root) {
-            Ok(is_new) => is_new,
-            Err(_) => return Err(Unborn::NoMemory),
-        };
-        self.add_reserved(root, is_new, fields, guard, style)
+        let made = self.heap.allocate(fields, guard, style)?;
+        self.hold(root, made.address);
+        Ok(made)
     }
 
-    // Answers once the root's place was made and there are as many pages as may be: a spare one takes no memory.
+    // Allocates where there are as many pages as may be, so that a page takes no memory. The place of a new root is taken
+    // away again where there is no room.
     fn add_at_limit(
         &mut self,
         root: &Ident,
@@ -121,23 +85,28 @@ impl Engine {
         requires names { self.old.heap.counters.born < 2 ^ 62 }
         requires there { IsSome (root_word self.old.roots root.now) }
         requires limit { length self.old.heap.pages ≡ self.old.heap.limit }
-        ensures { IsLastReply self.old self.new root.now is_new fields guard style result }
+        ensures last { IsLastReply self.old self.new root.now is_new fields guard style result }
+        ensures sound { IsSoundHeap self.old.heap }
     {
-        match self.add_reserved(root, is_new, fields, guard, style) {
+        match self.add(root, fields, guard, style) {
             Ok(made) => Reply::Made {
                 name: made.name,
                 address: made.address,
             },
-            Err(Unborn::Full) => Reply::Full,
-            Err(Unborn::NoMemory) => unreachable!(),
+            Err(PageFault::AtLimit) => {
+                self.free_root(root, is_new);
+                Reply::Full
+            }
+            Err(PageFault::NoMemory) => unreachable!(),
         }
     }
 
-    // Makes an object where there is room for it only after a whole collection. The root's place is made before it, so that
-    // no memory is wanted after it; until then the root holds what it held.
+    // Goes on where there was no room: a whole collection, and one more allocation. Until then the root, whose place was
+    // made, holds what it held before. `v` is the space before that.
     fn create_at_limit<K: Sink, L: Ledger>(
         &mut self,
         root: &Ident,
+        is_new: bool,
         fields: u64,
         guard: Guard,
         style: Style,
@@ -145,23 +114,18 @@ impl Engine {
         steps: &mut Steps<L>,
     ) -> Result<Answer, WriteFault>
         requires few { fields ≤ MOST_FIELDS }
+        requires there { IsSome (root_word self.old.roots root.now) }
         requires full { LacksRoom self.old.heap (pool_of_fields fields) }
+        requires sound { IsSoundHeap self.old.heap }
         requires able { CanAnswer self.old.heap }
         requires steps { steps.old < 2 ^ 62 }
-        ensures done { IfOk result (λ answer. IsAnswered self.old self.new (New root.now fields guard style) answer.reply answer.gone (K.written sink.old) (K.written sink.new)) }
-        ensures fault { OnErr result (IsCutOff self.old self.new (New root.now fields guard style) (K.written sink.old) (K.written sink.new)) }
+        ensures done { (v : View) → IsReserved v self.old root.now is_new → IfOk result (λ answer. IsAnswered v self.new (New root.now fields guard style) answer.reply answer.gone (K.written sink.old) (K.written sink.new) steps.old steps.new) }
+        ensures fault { (v : View) → IsReserved v self.old root.now is_new → OnErr result (IsCutOff v self.new (New root.now fields guard style) (K.written sink.old) (K.written sink.new)) }
         ensures cause { HasCause (K.faults sink.old) (K.faults sink.new) result }
-        ensures goes_on { GoesOn self.old.heap self.new.heap }
+        ensures turn { IsOneTurn self.old.heap self.new.heap }
         ensures steps { RisesByFewer steps.old steps.new }
     {
-        let is_new = match self.reserve_root(root) {
-            Ok(is_new) => is_new,
-            Err(_) => return Ok(Answer {
-                reply: Reply::NoMemory,
-                gone: 0,
-            }),
-        };
-        let collected = collect(&mut self.heap, &self.roots, &self.stack, sink, steps);
+        let collected = self.collect_all(sink, steps);
         let reply = self.add_at_limit(root, is_new, fields, guard, style);
         let gone = collected?.gone;
         Ok(Answer { reply, gone })
@@ -179,29 +143,32 @@ impl Engine {
     ) -> Result<Answer, WriteFault>
         requires able { CanAnswer self.old.heap }
         requires steps { steps.old < 2 ^ 62 }
-        ensures done { IfOk result (λ answer. IsAnswered self.old self.new (New root.now fields guard style) answer.reply answer.gone (K.written sink.old) (K.written sink.new)) }
+        ensures done { IfOk result (λ answer. IsAnswered self.old self.new (New root.now fields guard style) answer.reply answer.gone (K.written sink.old) (K.written sink.new) steps.old steps.new) }
         ensures fault { OnErr result (IsCutOff self.old self.new (New root.now fields guard style) (K.written sink.old) (K.written sink.new)) }
         ensures cause { HasCause (K.faults sink.old) (K.faults sink.new) result }
-        ensures goes_on { GoesOn self.old.heap self.new.heap }
+        ensures turn { IsOneTurn self.old.heap self.new.heap }
         ensures steps { RisesByFewer steps.old steps.new }
     {
         let Some(_) = pool_for(fields) else {
             let why = Refusal::TooLarge;
-            return Ok(Answer {
-                reply: Reply::Refused { why },
-                gone: 0,
-            });
+            return Ok(silent(Reply::Refused { why }));
         };
-        let reply = match self.add(root, fields, guard, style) {
-            Ok(made) => Reply::Made {
+        let is_new = match self.reserve_root(root) {
+            Ok(is_new) => is_new,
+            Err(_) => return Ok(silent(Reply::NoMemory)),
+        };
+        match self.add(root, fields, guard, style) {
+            Ok(made) => Ok(silent(Reply::Made {
                 name: made.name,
                 address: made.address,
-            },
-            Err(Unborn::NoMemory) => Reply::NoMemory,
-            Err(Unborn::Full) => {
-                return self.create_at_limit(root, fields, guard, style, sink, steps);
+            })),
+            Err(PageFault::NoMemory) => {
+                self.free_root(root, is_new);
+                Ok(silent(Reply::NoMemory))
             }
-        };
-        Ok(Answer { reply, gone: 0 })
+            Err(PageFault::AtLimit) => {
+                self.create_at_limit(root, is_new, fields, guard, style, sink, steps)
+            }
+        }
     }
 }

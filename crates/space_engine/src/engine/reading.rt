@@ -1,10 +1,10 @@
 // What operands stand for: words, names and values.
 ghost use Rattle.std.specs.Prelude.{◌≡◌, ◌<◌, ◌≤◌, ◌+◌, ◌^◌, true, length, IfOk, MatchResult};
-ghost use Rattle.space_model.specs.Answers.{field_value};
+ghost use Rattle.space_model.specs.RootCommands.{field_value};
 ghost use Rattle.space_model.specs.Operands.{input_value, named_by, operand_value, word_value};
-ghost use Rattle.space_model.specs.GivenIntegers.{IsSmallInput};
+ghost use Rattle.space_model.specs.CommandTexts.{IsWritableInput};
 ghost use Rattle.space_model.specs.State.{State};
-ghost use Rattle.space_heap.specs.Objects.{stands, object_of};
+ghost use Rattle.space_heap.specs.Objects.{is_occupied, object_of};
 ghost use Rattle.space_engine.specs.Stands.{Holds};
 ghost use Rattle.space_engine.specs.Words.{operand_word, word_result, owner_of_field, field_word};
 
@@ -70,7 +70,7 @@ impl Engine {
 
     /// The word of the value that a command is given.
     pub fn input_word(&self, input: &Input) -> Result<u64, Refusal>
-        requires { IsSmallInput input.now }
+        requires { IsWritableInput input.now }
         ensures { (s : State) → Holds self.now s → result ≡ word_result s.heap.place (input_value s input.now) }
     {
         match input {
@@ -83,7 +83,7 @@ impl Engine {
     /// The address of the object that the word names, where it has this field.
     pub fn owner_of(&self, word: u64, index: u64) -> Result<u64, Refusal>
         ensures owner { result ≡ owner_of_field self.now.heap word index }
-        ensures there { IfOk result (λ address. stands self.now.heap address ≡ true) }
+        ensures there { IfOk result (λ address. is_occupied self.now.heap address ≡ true) }
         ensures field { IfOk result (λ address. index < length (object_of self.now.heap address).fields) }
     {
         match self.heap.object_at(word) {

@@ -1,10 +1,10 @@
 // The commands that write roots.
 ghost use Rattle.std.specs.Prelude.{◌≡◌, ◌≤◌, ◌<◌, ◌+◌, ◌^◌, None, OnOk, OnErr, is_some};
 ghost use Rattle.space_model.specs.declared.command.Command.TheVariants.{Set, DropRoot, Load};
-ghost use Rattle.space_model.specs.GivenIntegers.{IsSmallInput};
+ghost use Rattle.space_model.specs.CommandTexts.{IsWritableInput};
 ghost use Rattle.space_model.specs.State.{State};
 ghost use Rattle.space_roots.specs.WordRoots.{root_word};
-ghost use Rattle.space_engine.specs.Ticks.{IsTicked};
+ghost use Rattle.space_engine.specs.Ticks.{IsReplyTicked};
 ghost use Rattle.space_engine.specs.Stands.{Holds};
 ghost use Rattle.space_engine.specs.Steps.{Answers};
 ghost use Rattle.space_engine.specs.Views.{with_root_written, with_root_dropped};
@@ -14,7 +14,7 @@ use space_model::{Ident, Input, Ledger, Operand, Refusal, Reply, Steps, Value};
 use std::alloc::AllocError as NoMemory;
 
 impl Engine {
-    // Writes a root; a new one may want memory. An `Err` changes nothing.
+    // Writes a root; a new one may need memory. An `Err` changes nothing.
     fn put_root(&mut self, root: &Ident, word: u64) -> Result<(), NoMemory>
         ensures ok { OnOk result (self.new ≡ with_root_written self.old root.now word) }
         ensures err { OnErr result (self.new ≡ self.old) }
@@ -33,7 +33,7 @@ impl Engine {
 
     /// The root holds the value.
     pub fn set(&mut self, root: &Ident, value: &Input) -> Reply
-        requires { IsSmallInput value.now }
+        requires { IsWritableInput value.now }
         ensures answers { (s : State) → Holds self.old s → Answers s self.new (Set root.now value.now) result }
         ensures heap { self.new.heap ≡ self.old.heap }
     {
@@ -72,7 +72,7 @@ impl Engine {
         requires { steps.old < 2 ^ 62 }
         ensures answers { (s : State) → Holds self.old s → Answers s self.new (Load root.now object.now index) result }
         ensures heap { self.new.heap ≡ self.old.heap }
-        ensures ticked { IsTicked (Load root.now object.now index) result steps.old steps.new }
+        ensures ticked { IsReplyTicked (Load root.now object.now index) result steps.old steps.new }
     {
         let word = match self.read(object, index, steps) {
             Ok(word) => word,

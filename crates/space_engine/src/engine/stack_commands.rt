@@ -1,7 +1,7 @@
 // The commands that change the stack.
 ghost use Rattle.std.specs.Prelude.{◌≡◌, ◌++◌, ◌∷◌, [], IfSome, OnOk, OnErr, IfNone};
 ghost use Rattle.space_model.specs.declared.command.Command.TheVariants.{Push, Raw, Pop};
-ghost use Rattle.space_model.specs.GivenIntegers.{IsSmallInput};
+ghost use Rattle.space_model.specs.CommandTexts.{IsWritableInput};
 ghost use Rattle.space_model.specs.State.{State};
 ghost use Rattle.space_engine.specs.Stands.{Holds};
 ghost use Rattle.space_engine.specs.Steps.{Answers};
@@ -44,7 +44,7 @@ impl Engine {
 
     /// The word of the value goes on the stack.
     pub fn push(&mut self, value: &Input) -> Reply
-        requires { IsSmallInput value.now }
+        requires { IsWritableInput value.now }
         ensures answers { (s : State) → Holds self.old s → Answers s self.new (Push value.now) result }
         ensures heap { self.new.heap ≡ self.old.heap }
     {

@@ -1,12 +1,14 @@
-use Rattle.space_engine.specs.Inside.{view_of}
-use Rattle.space_engine.proofs.ToldCollections.{answered_from, cut_from}
+-- `gc` from its collection, written whole or in part.
+use Rattle.space_engine.proofs.CollectionCommands.{gc_answered, gc_cut_off}
 use Rattle.space_engine.proofs.Outcomes.{on_err}
 use Rattle.space_engine.proofs.engine.Engine.collect.Goals as goal
 
-pub returns-in_err-collected-clause-fault : goal.returns-in_err-collected-clause-fault
-returns-in_err-collected-clause-fault g c =
-    on_err c.from_residual.result _ (cut_from (view_of c.self.inside) c.args.self.now c.collect.new.heap _ _ c.self.view_is c.requires.able.born c.in_err-collected.ensures.fault)
+pub returns-in_err-scans-clause-fault : goal.returns-in_err-scans-clause-fault
+returns-in_err-scans-clause-fault g c =
+    on_err c.from_residual.result _
+    (gc_cut_off c.args.self.now c.collect_all.new.self c.collect_all.ensures.rest c.requires.able _ _ c.in_err-scans.ensures.fault)
 
 pub returns-clause-done : goal.returns-clause-done
 returns-clause-done g c =
-    answered_from (view_of c.self.inside) c.args.self.now c.collect.new.heap c.in_ok-collected.collected.scans c.in_ok-collected.collected.gone _ _ c.self.view_is c.requires.able.born c.in_ok-collected.ensures.done
+    gc_answered c.args.self.now c.collect_all.new.self c.collect_all.ensures.rest c.requires.able c.in_ok-scans.field-0.scans
+    c.in_ok-scans.field-0.gone _ _ _ _ c.in_ok-scans.ensures.done c.in_ok-scans.ensures.ticked

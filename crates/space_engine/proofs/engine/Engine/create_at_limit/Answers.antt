@@ -1,30 +1,49 @@
-use Rattle.std.proofs.Common.{◌∙◌, inl}
-use Rattle.space_engine.specs.Inside.{view_of}
-use Rattle.space_engine.proofs.BirthPlaces.{not_made}
-use Rattle.space_engine.proofs.LimitBirths.{answered_from, cut_from, goes_on_from, born_from_one}
-use Rattle.space_engine.proofs.Stepping.{answered_quietly}
+-- What comes of a collection and one more allocation, for the space before the root's place was made.
+use Rattle.std.proofs.Common.{subst}
+use Rattle.space_engine.specs.Allocations.{IsLastReply}
+use Rattle.space_engine.specs.Views.{View}
+use Rattle.space_engine.proofs.NewCommand.{answered_late, cut_off_late}
 use Rattle.space_engine.proofs.Outcomes.{on_err}
+use Rattle.space_engine.proofs.TurnLaws.{turn_last}
 use Rattle.space_engine.proofs.engine.Engine.create_at_limit.Goals as goal
 
-pub returns-in-Err-clause-done : goal.returns-in-Err-clause-done
-returns-in-Err-clause-done g c = rw c.in-Err.ensures.err (answered_quietly c.args.self.now c.args.self.now _ _ _ (λ s h. not_made c.args.self.now s c.args.root.now c.args.fields c.args.guard c.args.style c.requires.few (inl c.in-Err.ensures.wanted) h))
-
 pub returns-in_err-gone-clause-fault : goal.returns-in_err-gone-clause-fault
-returns-in_err-gone-clause-fault g c =
+returns-in_err-gone-clause-fault g c = λ v reserved.
+    let a = c.args in
+    let need = c.requires in
+    let first = c.collect_all-collected in
+    let second = c.add_at_limit-reply in
+    let last = subst (λ (u : View). IsLastReply u second.new.self a.root.now a.is_new a.fields a.guard a.style second.result)
+    first.ensures.rest second.ensures.last in
     on_err c.from_residual.result _
-    (cut_from c.args.self.now c.args.root.now c.in-Ok.is_new c.in-Ok.ensures.absent c.args.fields c.args.guard c.args.style c.requires.few c.requires.full (view_of c.self.inside) c.add_at_limit-reply.new.self c.collect-collected.new.heap c.add_at_limit-reply.result _ _ (c.self.view_is ∙ c.in-Ok.ensures.ok) c.requires.able.born
-    (born_from_one c.args.self.now c.args.root.now c.in-Ok.is_new c.in-Ok.ensures.absent c.args.fields c.args.guard c.args.style c.requires.few c.requires.full (view_of c.self.inside) c.collect-collected.new.heap (c.self.view_is ∙ c.in-Ok.ensures.ok) c.collect-collected.ensures.one_verdict c.requires.able.born)
-    c.in_err-gone.ensures.fault c.add_at_limit-reply.ensures)
+    (cut_off_late a.root.now a.fields a.guard a.style v a.self.now a.is_new reserved need.few need.full need.sound need.able
+    second.new.self first.new.self.heap second.ensures.sound second.result _ _ first.ensures.one_verdict c.in_err-gone.ensures.fault last)
 
-pub returns-in_err-gone-clause-goes_on : goal.returns-in_err-gone-clause-goes_on
-returns-in_err-gone-clause-goes_on g c =
-    goes_on_from c.args.self.now c.args.root.now c.in-Ok.is_new c.in-Ok.ensures.absent c.args.fields c.args.guard c.args.style c.requires.few c.requires.full (view_of c.self.inside) c.add_at_limit-reply.new.self c.collect-collected.new.heap c.add_at_limit-reply.result (c.self.view_is ∙ c.in-Ok.ensures.ok) c.collect-collected.ensures.one_verdict c.add_at_limit-reply.ensures
+pub returns-in_err-gone-clause-turn : goal.returns-in_err-gone-clause-turn
+returns-in_err-gone-clause-turn g c =
+    let a = c.args in
+    let first = c.collect_all-collected in
+    let second = c.add_at_limit-reply in
+    turn_last a.self.now.heap first.new.self second.new.self a.root.now a.is_new a.fields a.guard a.style second.result
+    first.ensures.one_verdict second.ensures.last
 
 pub returns-clause-done : goal.returns-clause-done
-returns-clause-done g c =
-    answered_from c.args.self.now c.args.root.now c.in-Ok.is_new c.in-Ok.ensures.absent c.args.fields c.args.guard c.args.style c.requires.few c.requires.full (view_of c.self.inside) c.add_at_limit-reply.new.self c.collect-collected.new.heap c.in_ok-gone.field-0.scans c.in_ok-gone.field-0.gone c.add_at_limit-reply.result _ _ (c.self.view_is ∙ c.in-Ok.ensures.ok) c.requires.able.born
-    c.in_ok-gone.ensures.done c.add_at_limit-reply.ensures
+returns-clause-done g c = λ v reserved.
+    let a = c.args in
+    let need = c.requires in
+    let first = c.collect_all-collected in
+    let second = c.add_at_limit-reply in
+    let told = c.in_ok-gone in
+    let last = subst (λ (u : View). IsLastReply u second.new.self a.root.now a.is_new a.fields a.guard a.style second.result)
+    first.ensures.rest second.ensures.last in
+    answered_late a.root.now a.fields a.guard a.style v a.self.now a.is_new reserved need.few need.full need.sound need.able
+    second.new.self first.new.self.heap second.ensures.sound told.field-0.scans told.field-0.gone second.result _ _ _ _
+    told.ensures.done told.ensures.ticked last
 
-pub returns-clause-goes_on : goal.returns-clause-goes_on
-returns-clause-goes_on g c =
-    goes_on_from c.args.self.now c.args.root.now c.in-Ok.is_new c.in-Ok.ensures.absent c.args.fields c.args.guard c.args.style c.requires.few c.requires.full (view_of c.self.inside) c.add_at_limit-reply.new.self c.collect-collected.new.heap c.add_at_limit-reply.result (c.self.view_is ∙ c.in-Ok.ensures.ok) c.collect-collected.ensures.one_verdict c.add_at_limit-reply.ensures
+pub returns-clause-turn : goal.returns-clause-turn
+returns-clause-turn g c =
+    let a = c.args in
+    let first = c.collect_all-collected in
+    let second = c.add_at_limit-reply in
+    turn_last a.self.now.heap first.new.self second.new.self a.root.now a.is_new a.fields a.guard a.style second.result
+    first.ensures.one_verdict second.ensures.last

@@ -12,7 +12,8 @@ pub returns-in-Some : goal.returns-in-Some
 returns-in-Some c = λ s h.
     let at = there c.args.self.now.heap c.args.word c.in-Some.address (search rules) in
     let heap : c.self.inside.heap ≡ c.args.self.now.heap = search rules in
-    ap Some (c.name.ensures ∙ ap (λ (heap : HeapView). (object_of heap c.in-Some.address).name) heap ∙ ap (λ a. (object_of c.args.self.now.heap a).name) at.same)
+    ap Some (c.name.ensures ∙ ap (λ (heap : HeapView). (object_of heap c.in-Some.address).name) heap
+    ∙ ap (λ a. (object_of c.args.self.now.heap a).name) at.same)
     ∙ sym (name_found c.args.self.now s h c.args.word at.is)
 
 pub returns-in-None : goal.returns-in-None

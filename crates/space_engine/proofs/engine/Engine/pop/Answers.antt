@@ -1,4 +1,4 @@
-use Rattle.space_engine.proofs.Answering.{popped, pop_refused}
+use Rattle.space_engine.proofs.StackCommands.{popped, pop_refused}
 use Rattle.space_engine.proofs.engine.Engine.pop.Goals as goal
 
 pub returns-in-Some-clause-answers : goal.returns-in-Some-clause-answers

@@ -1,4 +1,4 @@
-use Rattle.space_engine.proofs.Answering.{pushed, push_refused}
+use Rattle.space_engine.proofs.StackCommands.{pushed, push_refused}
 use Rattle.space_engine.proofs.engine.Engine.push.Goals as goal
 
 pub returns-in-Err-clause-answers : goal.returns-in-Err-clause-answers

@@ -1,4 +1,4 @@
-use Rattle.space_engine.proofs.Answering.{raw_done, raw_lacking}
+use Rattle.space_engine.proofs.StackCommands.{raw_done, raw_lacking}
 use Rattle.space_engine.proofs.engine.Engine.raw.Goals as goal
 
 pub returns-in-Ok-clause-answers : goal.returns-in-Ok-clause-answers

@@ -1,13 +1,15 @@
-use Rattle.space_engine.proofs.Answering.{store_done, store_refused}
-use Rattle.space_engine.proofs.Tidying.{goes_on_stored}
+use Rattle.space_engine.proofs.ObjectCommands.{store_done, store_refused}
+use Rattle.space_engine.proofs.TurnLaws.{turn_written}
 use Rattle.space_engine.proofs.engine.Engine.store.Goals as goal
 
 pub returns-in-Ok-clause-answers : goal.returns-in-Ok-clause-answers
 returns-in-Ok-clause-answers c = λ s h.
-    rw c.put_field.ensures (store_done c.args.self.now s h c.args.object.now c.args.index c.args.value.now c.in-Ok.address c.in-Ok.word c.requires (c.in-Ok.ensures.written s h))
+    rw c.put_field.ensures
+    (store_done c.args.self.now s h c.args.object.now c.args.index c.args.value.now c.in-Ok.address c.in-Ok.word c.requires (c.in-Ok.ensures.written s h))
 
-pub returns-in-Ok-clause-goes_on : goal.returns-in-Ok-clause-goes_on
-returns-in-Ok-clause-goes_on c = rw c.put_field.ensures (goes_on_stored c.args.self.now.heap c.in-Ok.address c.args.index c.in-Ok.word)
+pub returns-in-Ok-clause-turn : goal.returns-in-Ok-clause-turn
+returns-in-Ok-clause-turn c = rw c.put_field.ensures (turn_written c.args.self.now.heap c.in-Ok.address c.args.index c.in-Ok.word)
 
 pub returns-in-Err-clause-answers : goal.returns-in-Err-clause-answers
-returns-in-Err-clause-answers c = λ s h. store_refused c.args.self.now s h c.args.object.now c.args.index c.args.value.now c.in-Err.why (c.in-Err.ensures.written s h)
+returns-in-Err-clause-answers c =
+    λ s h. store_refused c.args.self.now s h c.args.object.now c.args.index c.args.value.now c.in-Err.why (c.in-Err.ensures.written s h)

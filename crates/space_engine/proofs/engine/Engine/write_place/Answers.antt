@@ -1,3 +1,4 @@
+-- The address and the word, or the refusal that comes first.
 use Rattle.std.proofs.Common.{◌≡◌, ℕ, ◌∙◌, ap, Result, Ok}
 use Rattle.std.proofs.lemmas.Result.{err_from_is_err_and}
 use Rattle.space_model.specs.declared.reply.Refusal.{Refusal}
@@ -27,4 +28,5 @@ returns-in_err-address-clause-written c = λ s h.
 pub returns-in_err-object-clause-written : goal.returns-in_err-object-clause-written
 returns-in_err-object-clause-written c = λ s h.
     let p = err_from_is_err_and c.from_residual.result c.from_residual.ensures.1 in
-    rw (p.1, p.2) (write_lost c.args.self.now s h _ _ _ c.args.index (c.in_err-object.ensures ∙ same_both _ _ _ _ (c.word_of.ensures s h) (c.input_word.ensures s h)))
+    rw (p.1, p.2) (write_lost c.args.self.now s h _ _ _ c.args.index
+    (c.in_err-object.ensures ∙ same_both _ _ _ _ (c.word_of.ensures s h) (c.input_word.ensures s h)))

@@ -1,0 +1,16 @@
+-- Words that were found, or the refusal in their place: a refusal of a word is one of its value.
+use Rattle.std.proofs.Common.{◌≡◌, ℕ, sym, Result, Ok, Err}
+use Rattle.std.specs.Ordering.{nat_cmp}
+use Rattle.std.specs.FinMap.{FinMap}
+use Rattle.space_model.specs.declared.reply.Refusal.{Refusal}
+use Rattle.space_model.specs.declared.value.Value.{Value}
+use Rattle.space_engine.specs.Words.{word_result, written_words}
+
+module _ (place : FinMap nat_cmp ℕ) where
+  pub refused_value : (found : Result Value Refusal) (why : Refusal) → Err why ≡ word_result place found → found ≡ Err why
+  refused_value (Ok value) why e = absurd (cc)
+  refused_value (Err other) why e = sym (let f : ◌≡◌ {A = Result Value Refusal} (Err why) (Err other) = cc in f)
+
+  pub refused_write : (found : Result (ℕ × Value) Refusal) (why : Refusal) → Err why ≡ written_words place found → found ≡ Err why
+  refused_write (Ok written) why e = absurd (cc)
+  refused_write (Err other) why e = sym (let f : ◌≡◌ {A = Result (ℕ × Value) Refusal} (Err why) (Err other) = cc in f)

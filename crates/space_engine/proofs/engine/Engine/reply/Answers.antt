@@ -1,0 +1,27 @@
+-- Each arm hands on what its command's method tells.
+use Rattle.space_engine.proofs.ObjectCommands.{compared}
+use Rattle.space_engine.proofs.engine.Engine.reply.Goals as goal
+
+pub returns-in-Set-clause-answers : goal.returns-in-Set-clause-answers
+returns-in-Set-clause-answers g c = λ s h. rw c.in-Set.is (c.set.ensures.answers s h)
+
+pub returns-in-DropRoot-clause-answers : goal.returns-in-DropRoot-clause-answers
+returns-in-DropRoot-clause-answers g c = λ s h. rw c.in-DropRoot.is (c.drop_root.ensures.answers s h)
+
+pub returns-in-Push-clause-answers : goal.returns-in-Push-clause-answers
+returns-in-Push-clause-answers g c = λ s h. rw c.in-Push.is (c.push.ensures.answers s h)
+
+pub returns-in-Raw-clause-answers : goal.returns-in-Raw-clause-answers
+returns-in-Raw-clause-answers g c = λ s h. rw c.in-Raw.is (c.raw.ensures.answers s h)
+
+pub returns-in-Pop-clause-answers : goal.returns-in-Pop-clause-answers
+returns-in-Pop-clause-answers g c = λ s h. rw c.in-Pop.is (c.pop.ensures.answers s h)
+
+pub returns-in-Store-clause-answers : goal.returns-in-Store-clause-answers
+returns-in-Store-clause-answers g c = λ s h. rw c.in-Store.is (c.store.ensures.answers s h)
+
+pub returns-in-Load-clause-answers : goal.returns-in-Load-clause-answers
+returns-in-Load-clause-answers g c = λ s h. rw c.in-Load.is (c.load.ensures.answers s h)
+
+pub returns-in-Same-clause-answers : goal.returns-in-Same-clause-answers
+returns-in-Same-clause-answers g c = λ s h. rw c.in-Same.is (compared c.args.self.now s h _ _ _ (c.compare.ensures s h))

@@ -1,0 +1,27 @@
+-- The space after an object was allocated for a root.
+use Rattle.std.specs.Prelude.{◌≡◌, ℕ, Bool, List, None, IsTrue, if◌then◌else◌}
+use Rattle.space_model.specs.declared.object.Guard.{Guard}
+use Rattle.space_model.specs.declared.object.Style.{Style}
+use Rattle.space_model.specs.declared.reply.Reply.{Reply}
+use Rattle.space_model.specs.declared.reply.Reply.TheVariants.{Made, Full}
+use Rattle.space_model.specs.Layout.{pool_for}
+use Rattle.space_heap.specs.Allocations.{IsAllocation, LacksRoom}
+use Rattle.space_roots.specs.WordRoots.{root_word}
+use Rattle.space_engine.specs.Views.{View, with_heap, with_root_dropped, with_root_reserved, with_root_written}
+
+-- w is v after a place was made for the root, which tells whether it is new
+pub record IsReserved (v w : View) (root : List ℕ) (is_new : Bool) : Type 0 where
+  pub becomes : w ≡ with_root_reserved v root is_new
+  pub absent : IsTrue is_new → root_word v.roots root ≡ None
+
+-- an object was allocated with this name at this address, and the root holds the address
+pub record IsRootedAllocation (v w : View) (root : List ℕ) (fields : ℕ) (guard : Guard) (style : Style) (name address : ℕ) : Type 0 where
+  pub allocation : IsAllocation v.heap w.heap fields guard style name address
+  pub becomes : w ≡ with_root_written (with_heap v w.heap) root address
+
+-- the reply to an allocation where no new page takes memory: an object was allocated, and the root, whose place was made, holds it; or
+-- there is no room, and a root that is new was taken away again
+abbrev pub IsLastReply : View → View → List ℕ → Bool → ℕ → Guard → Style → Reply → Type 0
+IsLastReply v w root is_new fields guard style (Made name address) = IsRootedAllocation v w root fields guard style name address
+IsLastReply v w root is_new fields guard style Full = LacksRoom v.heap (pool_for fields) × (w ≡ (if is_new then with_root_dropped v root else v))
+IsLastReply v w root is_new fields guard style _ = ⊥

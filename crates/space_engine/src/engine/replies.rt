@@ -1,0 +1,43 @@
+// The commands that tell no events: each has one reply.
+ghost use Rattle.std.specs.Prelude.{◌≡◌, ◌<◌, ◌^◌};
+ghost use Rattle.space_model.specs.Given.{IsGiven};
+ghost use Rattle.space_model.specs.State.{State};
+ghost use Rattle.space_engine.specs.Stands.{Holds};
+ghost use Rattle.space_engine.specs.Steps.{Answers, IsQuiet};
+ghost use Rattle.space_engine.specs.Ticks.{IsReplyTicked};
+ghost use Rattle.space_engine.specs.Turns.{IsOneTurn};
+
+use super::Engine;
+use space_model::{Command, Ledger, Reply, Steps};
+
+impl Engine {
+    /// Replies to a command that tells no events.
+    pub fn reply<L: Ledger>(&mut self, command: &Command, steps: &mut Steps<L>) -> Reply
+        requires quiet { IsQuiet command.now }
+        requires given { IsGiven command.now }
+        requires steps { steps.old < 2 ^ 62 }
+        ensures answers { (s : State) → Holds self.old s → Answers s self.new command.now result }
+        ensures ticked { IsReplyTicked command.now result steps.old steps.new }
+        ensures turn { IsOneTurn self.old.heap self.new.heap }
+    {
+        match command {
+            Command::Set { root, value } => self.set(root, value),
+            Command::DropRoot { root } => self.drop_root(root),
+            Command::Push { value } => self.push(value),
+            Command::Raw { word } => self.raw(*word),
+            Command::Pop => self.pop(),
+            Command::Store {
+                object,
+                index,
+                value,
+            } => self.store(object, *index, value),
+            Command::Load {
+                root,
+                object,
+                index,
+            } => self.load(root, object, *index, steps),
+            Command::Same { left, right } => self.compare(left, right),
+            Command::New { .. } | Command::Gc => unreachable!(),
+        }
+    }
+}
