@@ -1,21 +1,21 @@
 // Replays a trace from standard input to standard output.
 #![tactic(auto)]
 
-use space_io::{StdSink, StdSource};
+mod ending;
+
+use ending::{NO_MEMORY, REFUSED, say_why};
+use space_io::{BufferedSink, StdSink, StdSource};
 use space_run::run;
 use std::process::ExitCode;
 use std::{env, io};
 
-/// The status where memory was lacking at the opening.
-const NO_MEMORY: u8 = 1;
-
-/// The status where the words are no command, or aren't UTF-8.
-const REFUSED: u8 = 2;
-
 fn main(rt: HostRuntime) -> ExitCode {
     let alloc = rt.alloc();
     let mut source = StdSource::new(rt.stdin());
-    let mut sink = StdSink::new(io::writer(&rt));
+    let Ok(mut sink) = BufferedSink::new(alloc, StdSink::new(io::writer(&rt))) else {
+        say_why(&rt, NO_MEMORY, None);
+        return ExitCode::from(NO_MEMORY);
+    };
     let status = match env::args(&rt) {
         Ok(args) => match args.skip(1).collect(alloc) {
             Ok(words) => run(alloc, &words, &mut source, &mut sink),
@@ -26,8 +26,6 @@ fn main(rt: HostRuntime) -> ExitCode {
             _ => REFUSED,
         },
     };
-    if status == REFUSED {
-        let _ = eprintln!(rt; "usage: rubyspace replay [--pages N] < TRACE");
-    }
+    say_why(&rt, status, source.error().or(sink.inner().error()));
     ExitCode::from(status)
 }

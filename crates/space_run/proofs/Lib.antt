@@ -1,2 +1,4 @@
 mod WordsLemmas
 mod Replaying
+mod Inputs
+mod Statuses

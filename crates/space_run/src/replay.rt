@@ -1,43 +1,21 @@
 // Replays a trace.
-ghost use Rattle.std.specs.Prelude.{◌≡◌, ◌≢◌, ◌<◌, ◌≤◌, ◌⊎◌, ◌↔◌, ℕ, List, Some, false, IsTrue, MatchOption, map, slice_get, vec_len};
-ghost use Rattle.std.specs.String.{string_bytes};
-ghost use Rattle.std.specs.Io.KnownBytes.{Appends};
+ghost use Rattle.std.specs.Prelude.{◌≡◌, ◌≢◌, ◌⊎◌, ◌≤◌, ℕ, List, false};
 ghost use Rattle.space_io.specs.Causes.{Rose};
 ghost use Rattle.space_io.specs.Reading.{at_start};
-ghost use Rattle.space_io.specs.Sinks.{AppendsPrefix};
-ghost use Rattle.space_model.specs.Grammar.{IsNumber};
 ghost use Rattle.space_model.specs.State.{opening};
-ghost use Rattle.space_model.specs.Texts.{line_of_pieces, malformed_pieces};
-ghost use Rattle.space_run.specs.Replays.{Replays, StopsAtLine, HasFailedRead, HasFailedWrite, HasReachedLimit, IsReplay, IsWholeInput, IsCalm};
+ghost use Rattle.space_run.specs.Ends.{EndsAs, HasFailed};
+ghost use Rattle.space_run.specs.Replays.{Replays, StopsAtLine, TellsMalformed, HasFailedRead, HasFailedWrite, HasReachedLimit, IsReplay, IsWholeInput};
+ghost use Rattle.space_run.specs.Replays.{IsBadInput, IsCalm};
 ghost use Rattle.space_engine.specs.Stands.{Stands};
 
+use crate::command_line::page_limit;
+use crate::end::End;
+use crate::line::answer_line;
 use space_engine::Space;
-use space_io::{LineFault, Lines, Sink, Source};
+use space_io::{Lines, Sink, Source};
 use space_model::Steps;
-use space_trace::{read_command, read_number, write_malformed};
 use std::alloc::Global;
 use std::sync::ledger::Blank;
-
-/// The most pages of a space, where the words say nothing of them.
-const PAGES: u32 = 256;
-
-/// The most pages that the words may allow.
-const MOST_PAGES: u64 = 4096;
-
-// Writes that the line is malformed, and answers the status.
-fn stop_at<K: Sink>(number: u64, sink: &mut K) -> u8
-    ensures status { (result ≡ 3) ⊎ (result ≡ 5) }
-    ensures written { result ≡ 3 → Appends (K.written sink.old) (K.written sink.new) (line_of_pieces (malformed_pieces number)) }
-    ensures front { AppendsPrefix (K.written sink.old) (K.written sink.new) (line_of_pieces (malformed_pieces number)) }
-    ensures fault { result ≡ 5 → Rose (K.faults sink.old) (K.faults sink.new) }
-    ensures heeded { result ≢ 5 → K.faults sink.new ≡ K.faults sink.old }
-    ensures counted { K.faults sink.old ≤ K.faults sink.new }
-{
-    match write_malformed(number, sink) {
-        Ok(()) => 3,
-        Err(_) => 5,
-    }
-}
 
 // Answers the lines of the source, to its end.
 fn replay<S: Source, K: Sink>(
@@ -45,82 +23,25 @@ fn replay<S: Source, K: Sink>(
     mut space: Space,
     source: &mut S,
     sink: &mut K,
-) -> u8
+) -> End
     requires lines { lines ≡ at_start }
     requires able { space.is_spent ≡ false }
     requires turns { space.turns ≡ 0 }
     requires stands { Stands space (opening space.parts.heap.limit) }
 
-    ensures status { (result ≢ 1) × (result ≢ 2) × (result ≤ 6) }
-    ensures done { result ≡ 0 → Replays space.parts.heap.limit (S.rest source.old) (S.rest source.new) (K.written sink.old) (K.written sink.new) }
-    ensures malformed { result ≡ 3 → StopsAtLine space.parts.heap.limit (S.rest source.old) (S.rest source.new) (K.written sink.old) (K.written sink.new) }
-    ensures read_fault { result ≡ 4 → Rose (S.faults source.old) (S.faults source.new) }
-    ensures answered { result ≡ 4 → HasFailedRead space.parts.heap.limit (S.rest source.old) (S.rest source.new) (K.written sink.old) (K.written sink.new) }
-    ensures write_fault { result ≡ 5 → Rose (K.faults sink.old) (K.faults sink.new) }
-    ensures front { result ≡ 5 → HasFailedWrite space.parts.heap.limit (S.rest source.old) (S.rest source.new) (K.written sink.old) (K.written sink.new) }
-    ensures limit { result ≡ 6 → HasReachedLimit space.parts.heap.limit (S.rest source.old) (S.rest source.new) (K.written sink.old) (K.written sink.new) }
-    ensures reads_heeded { result ≢ 4 → S.faults source.new ≡ S.faults source.old }
-    ensures writes_heeded { result ≢ 5 → K.faults sink.new ≡ K.faults sink.old }
+    ensures ends { EndsAs space.parts.heap.limit (S.rest source.old) (S.rest source.new) (S.ends source.old) (S.ends source.new) (K.written sink.old)
+        (K.written sink.new) result }
+    ensures held { result ≢ End.WriteFault → K.held sink.new ≡ 0 }
+    ensures failed { HasFailed (S.faults source.old) (S.faults source.new) (K.faults sink.old) (K.faults sink.new) result }
     ensures reads_counted { S.faults source.old ≤ S.faults source.new }
     ensures writes_counted { K.faults sink.old ≤ K.faults sink.new }
 {
     let mut steps = Steps::start(Blank::new(1));
-    let mut number = 0;
     'each_line: loop {
-        let line = match lines.next(source) {
-            Ok(Some(line)) => line,
-            Ok(None) => return 0,
-            Err(LineFault::ReadFault) => return 4,
-            Err(LineFault::InputLimit) => return 6,
-            Err(LineFault::TooLong) => return stop_at(number + 1, sink),
-        };
-        number = line.number;
-        let Ok(found) = read_command(line.bytes) else {
-            return stop_at(number, sink);
-        };
-        let Some(command) = found else {
-            continue;
-        };
-        if space.step(&command, sink, &mut steps).is_err() {
-            return 5;
+        if let Some(end) = answer_line(&mut lines, &mut space, &mut steps, source, sink) {
+            return end;
         }
     }
-}
-
-// Whether the word at a place is this text.
-fn is_word(words: &Vec<String>, place: usize, text: &str) -> bool
-    requires { place < vec_len words.now }
-    ensures { IsTrue result ↔ (slice_get (map string_bytes words.now.items) place ≡ Some text.now) }
-{
-    words[place].as_str() == text
-}
-
-// The number that the word at a place is.
-fn number_at(words: &Vec<String>, place: usize) -> Option<u64>
-    requires { place < vec_len words.now }
-    ensures { (digits : List ℕ) → slice_get (map string_bytes words.now.items) place ≡ Some digits → MatchOption result ((number : ℕ) → IsNumber digits number → ⊥) (IsNumber digits) }
-{
-    read_number(words[place].as_bytes())
-}
-
-// The most pages of the space, where the words are those of a replay.
-fn page_limit(words: &Vec<String>) -> Option<u32>
-    ensures { MatchOption result ((limit : ℕ) → IsReplay words.now.items limit → ⊥) (IsReplay words.now.items) }
-{
-    if words.is_empty() || !is_word(words, 0, "replay") {
-        return None;
-    }
-    if words.len() == 1 {
-        return Some(PAGES);
-    }
-    if words.len() != 3 || !is_word(words, 1, "--pages") {
-        return None;
-    }
-    let pages = number_at(words, 2)?;
-    if pages == 0 || pages > MOST_PAGES {
-        return None;
-    }
-    Some(pages as u32)
 }
 
 /// Does what the words say, those after the program's name, and answers the status of the program.
@@ -136,7 +57,7 @@ fn page_limit(words: &Vec<String>) -> Option<u32>
 /// | 2 | the words aren't those of a replay; nothing is read or written |
 /// | 3 | a line is malformed or longer than 4,096 bytes; those before it are answered, and `line L: malformed` is written last |
 /// | 4 | a read failed; each whole line that came before is answered |
-/// | 5 | a write failed; a front of the answers was written, with the line that tells of a malformed one where it was due |
+/// | 5 | a write failed; a prefix of the answers was written, with the line that tells of a malformed one where it was due |
 /// | 6 | 2^32 bytes were taken, which is the most; each whole line of them is answered |
 pub fn run<S: Source, K: Sink>(
     alloc: Global,
@@ -145,34 +66,52 @@ pub fn run<S: Source, K: Sink>(
     sink: &mut K,
 ) -> u8
     // Each command of the input had lawful outputs, from the opening on, and they were written.
-    ensures done { (limit : ℕ) → IsReplay words.now.items limit → result ≡ 0 → Replays limit (S.rest source.old) (S.rest source.new) (K.written sink.old) (K.written sink.new) }
+    ensures done { (limit : ℕ) → IsReplay words.now.items limit → result ≡ 0 →
+        Replays limit (S.rest source.old) (S.rest source.new) (K.written sink.old) (K.written sink.new) }
 
-    // The words are refused exactly where they are no replay.
+    // The words are refused exactly where they are no replay, and then nothing is read or written.
     ensures refused { ((limit : ℕ) → IsReplay words.now.items limit → ⊥) → result ≡ 2 }
     ensures accepted { (limit : ℕ) → IsReplay words.now.items limit → result ≢ 2 }
+    ensures unread { result ≡ 2 → source.new ≡ source.old }
+    ensures unwritten { result ≡ 2 → sink.new ≡ sink.old }
 
-    // Then, and where memory is lacking, nothing was read or written.
-    ensures unread { (result ≡ 1) ⊎ (result ≡ 2) → source.new ≡ source.old }
-    ensures unwritten { (result ≡ 1) ⊎ (result ≡ 2) → sink.new ≡ sink.old }
+    // Where memory is lacking, the words are those of a replay, and nothing is read or written either.
+    ensures unopened { result ≡ 1 → ((limit : ℕ) × IsReplay words.now.items limit) × (source.new ≡ source.old) × (sink.new ≡ sink.old) }
 
     // Every other end has its cause.
-    ensures malformed { (limit : ℕ) → IsReplay words.now.items limit → result ≡ 3 → StopsAtLine limit (S.rest source.old) (S.rest source.new) (K.written sink.old) (K.written sink.new) }
+    ensures malformed { (limit : ℕ) → IsReplay words.now.items limit → result ≡ 3 →
+        StopsAtLine limit (S.rest source.old) (S.rest source.new) (S.ends source.old) (S.ends source.new) (K.written sink.old) (K.written sink.new) }
     ensures read_fault { result ≡ 4 → Rose (S.faults source.old) (S.faults source.new) }
-    ensures answered { (limit : ℕ) → IsReplay words.now.items limit → result ≡ 4 → HasFailedRead limit (S.rest source.old) (S.rest source.new) (K.written sink.old) (K.written sink.new) }
+    ensures answered { (limit : ℕ) → IsReplay words.now.items limit → result ≡ 4 →
+        HasFailedRead limit (S.rest source.old) (S.rest source.new) (K.written sink.old) (K.written sink.new) }
     ensures write_fault { result ≡ 5 → Rose (K.faults sink.old) (K.faults sink.new) }
-    ensures front { (limit : ℕ) → IsReplay words.now.items limit → result ≡ 5 → HasFailedWrite limit (S.rest source.old) (S.rest source.new) (K.written sink.old) (K.written sink.new) }
-    ensures limit { (limit : ℕ) → IsReplay words.now.items limit → result ≡ 6 → HasReachedLimit limit (S.rest source.old) (S.rest source.new) (K.written sink.old) (K.written sink.new) }
+    ensures prefix { (limit : ℕ) → IsReplay words.now.items limit → result ≡ 5 →
+        HasFailedWrite limit (S.rest source.old) (S.rest source.new) (S.ends source.old) (S.ends source.new) (K.written sink.old) (K.written sink.new) }
+    ensures limit { (limit : ℕ) → IsReplay words.now.items limit → result ≡ 6 →
+        HasReachedLimit limit (S.rest source.old) (S.rest source.new) (K.written sink.old) (K.written sink.new) }
     ensures status { result ≤ 6 }
 
+    // The sink holds nothing at an end that isn't its own fault. A read may fail, so this is so before each read too.
+    ensures none_held { (result ≡ 0) ⊎ (result ≡ 3) ⊎ (result ≡ 4) ⊎ (result ≡ 6) → K.held sink.new ≡ 0 }
+
     // A failed call ends the replay, and is the only one that failed. The counts of faults never fall.
-    ensures reads_heeded { result ≢ 4 → S.faults source.new ≡ S.faults source.old }
-    ensures writes_heeded { result ≢ 5 → K.faults sink.new ≡ K.faults sink.old }
+    ensures no_read_swallowed { result ≢ 4 → S.faults source.new ≡ S.faults source.old }
+    ensures no_write_swallowed { result ≢ 5 → K.faults sink.new ≡ K.faults sink.old }
     ensures reads_counted { S.faults source.old ≤ S.faults source.new }
     ensures writes_counted { K.faults sink.old ≤ K.faults sink.new }
 
-    // An input of fewer than 2^32 bytes, each line of which is a command or blank, is replayed to its end where no call fails and
-    // there is memory to begin with.
-    ensures complete { (limit : ℕ) → IsReplay words.now.items limit → IsWholeInput (S.rest source.old) → IsCalm (S.faults source.old) (S.faults source.new) (K.faults sink.old) (K.faults sink.new) → (result ≡ 0) ⊎ (result ≡ 1) }
+    // A source that told its end isn't read again: it may tell it once more. At status 0 it told it, and at 4 and 6 it didn't.
+    ensures ended { result ≡ 0 → Rose (S.ends source.old) (S.ends source.new) }
+    ensures not_ended { (result ≡ 4) ⊎ (result ≡ 6) → S.ends source.new ≡ S.ends source.old }
+    ensures ended_once { (S.ends source.new ≡ S.ends source.old) ⊎ Rose (S.ends source.old) (S.ends source.new) }
+
+    // An input of fewer than 2^32 bytes, where no call fails and there is memory to begin with, is replayed to its end, if each line is
+    // a command or blank, and else to the first line that is malformed or too long.
+    ensures complete { (limit : ℕ) → IsReplay words.now.items limit → IsWholeInput (S.rest source.old) →
+        IsCalm (S.faults source.old) (S.faults source.new) (K.faults sink.old) (K.faults sink.new) → (result ≡ 0) ⊎ (result ≡ 1) }
+    ensures stops { (limit : ℕ) (lines : List (List ℕ)) → IsReplay words.now.items limit → IsBadInput (S.rest source.old) lines →
+        IsCalm (S.faults source.old) (S.faults source.new) (K.faults sink.old) (K.faults sink.new) →
+        ((result ≡ 3) × TellsMalformed limit lines (K.written sink.old) (K.written sink.new)) ⊎ (result ≡ 1) }
 {
     let Some(limit) = page_limit(words) else {
         return 2;
@@ -183,5 +122,5 @@ pub fn run<S: Source, K: Sink>(
     let Ok(space) = Space::new(alloc, limit) else {
         return 1;
     };
-    replay(lines, space, source, sink)
+    replay(lines, space, source, sink).status()
 }

@@ -4,9 +4,9 @@ use Rattle.space_run.proofs.replay.replay.Given as goal
 
 abbrev pub invariant-each_line : goal.invariant-each_line
 invariant-each_line g l = record {
-  done : HasReplayed l.fn.space.parts.heap.limit (g.S.Source.rest l.fn.source) (g.S.Source.rest l.source) (g.K.Sink.written l.fn.sink) (g.K.Sink.written l.sink) l.lines l.space;
-  counted : l.lines.number ≤ 2 ^ 32;
-  numbered : l.number ≡ l.lines.number;
+  done : HasReplayed l.fn.space.parts.heap.limit (g.S.Source.rest l.fn.source) (g.S.Source.rest l.source) (g.S.Source.ends l.fn.source)
+      (g.S.Source.ends l.source) (g.K.Sink.written l.fn.sink) (g.K.Sink.written l.sink) l.lines l.space;
+  number : l.lines.number ≤ 2 ^ 32;
   able : l.space.is_spent ≡ false;
   turns : l.space.turns ≤ l.lines.number;
   steps : l.steps ≤ 2 ^ 26 * l.lines.number;

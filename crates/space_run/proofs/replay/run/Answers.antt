@@ -1,50 +1,73 @@
-use Rattle.std.proofs.Common.{◌≡◌, ℕ, subst, ap, ◌∙◌}
-use Rattle.space_run.specs.Replays.{Replays, StopsAtLine, HasFailedRead, HasFailedWrite, HasReachedLimit}
+use Rattle.std.proofs.Common.{◌∙◌, ap, sym, inl}
 use Rattle.space_engine.specs.Views.{SpaceView}
-use Rattle.space_run.proofs.Replaying.{no_stop, no_limit, completes}
+use Rattle.space_run.proofs.Inputs.{completes, stops}
+use Rattle.space_run.proofs.Statuses.{at_limit, is_complete, is_malformed, is_read_fault, is_write_fault, is_input_limit, ends_once, no_fault}
 use Rattle.space_run.proofs.WordsLemmas.{texts_of, one_limit}
 use Rattle.space_run.proofs.replay.run.Goals as goal
 
 pub returns-in_default-clause-complete : goal.returns-in_default-clause-complete
 returns-in_default-clause-complete g c = λ limit words input calm. absurd (c.in_default.ensures limit words)
 
+pub returns-in_default-clause-stops : goal.returns-in_default-clause-stops
+returns-in_default-clause-stops g c = λ limit lines words input calm. absurd (c.in_default.ensures limit words)
+
 pub returns-clause-refused : goal.returns-clause-refused
 returns-clause-refused g c = λ none. absurd (none c.in-Some.limit c.in-Some.ensures)
 
 pub returns-clause-done : goal.returns-clause-done
-returns-clause-done g c = λ limit words zero.
-    let same : c.in-Ok-new.space.parts.heap.limit ≡ limit = ap (λ (v : SpaceView). v.parts.heap.limit) c.in-Ok-new.ensures.view ∙ one_limit (texts_of c.args.words.now.items) c.in-Some.limit limit c.in-Some.ensures words in
-    let Done : ℕ → Type 0 = λ n. Replays n (g.S.Source.rest c.args.source.now) (g.S.Source.rest c.replay.new.source) (g.K.Sink.written c.args.sink.now) (g.K.Sink.written c.replay.new.sink) in
-    subst Done same (c.replay.ensures.done zero)
+returns-clause-done g c = λ limit words status.
+    let end = is_complete c.replay.result (sym c.status.ensures ∙ status) in
+    let done = rw end at (at_limit _ limit _ _ _ _ _ _ c.replay.result
+    (ap (λ (v : SpaceView). v.parts.heap.limit) c.in-Ok-new.ensures.view
+    ∙ one_limit (texts_of c.args.words.now.items) c.in-Some.limit limit c.in-Some.ensures words) c.replay.ensures.ends) in
+    done.0
 
 pub returns-clause-malformed : goal.returns-clause-malformed
-returns-clause-malformed g c = λ limit words three.
-    let same : c.in-Ok-new.space.parts.heap.limit ≡ limit = ap (λ (v : SpaceView). v.parts.heap.limit) c.in-Ok-new.ensures.view ∙ one_limit (texts_of c.args.words.now.items) c.in-Some.limit limit c.in-Some.ensures words in
-    let Stops : ℕ → Type 0 = λ n. StopsAtLine n (g.S.Source.rest c.args.source.now) (g.S.Source.rest c.replay.new.source) (g.K.Sink.written c.args.sink.now) (g.K.Sink.written c.replay.new.sink) in
-    subst Stops same (c.replay.ensures.malformed three)
+returns-clause-malformed g c = λ limit words status.
+    let end = is_malformed c.replay.result (sym c.status.ensures ∙ status) in
+    rw end at (at_limit _ limit _ _ _ _ _ _ c.replay.result
+    (ap (λ (v : SpaceView). v.parts.heap.limit) c.in-Ok-new.ensures.view
+    ∙ one_limit (texts_of c.args.words.now.items) c.in-Some.limit limit c.in-Some.ensures words) c.replay.ensures.ends)
 
 pub returns-clause-answered : goal.returns-clause-answered
-returns-clause-answered g c = λ limit words four.
-    let same : c.in-Ok-new.space.parts.heap.limit ≡ limit = ap (λ (v : SpaceView). v.parts.heap.limit) c.in-Ok-new.ensures.view ∙ one_limit (texts_of c.args.words.now.items) c.in-Some.limit limit c.in-Some.ensures words in
-    let Fails : ℕ → Type 0 = λ n. HasFailedRead n (g.S.Source.rest c.args.source.now) (g.S.Source.rest c.replay.new.source) (g.K.Sink.written c.args.sink.now) (g.K.Sink.written c.replay.new.sink) in
-    subst Fails same (c.replay.ensures.answered four)
+returns-clause-answered g c = λ limit words status.
+    let end = is_read_fault c.replay.result (sym c.status.ensures ∙ status) in
+    let failed = rw end at
+    (at_limit _ limit _ _ _ _ _ _ c.replay.result
+    (ap (λ (v : SpaceView). v.parts.heap.limit) c.in-Ok-new.ensures.view
+    ∙ one_limit (texts_of c.args.words.now.items) c.in-Some.limit limit c.in-Some.ensures words) c.replay.ensures.ends) in
+    failed.0
 
-pub returns-clause-front : goal.returns-clause-front
-returns-clause-front g c = λ limit words five.
-    let same : c.in-Ok-new.space.parts.heap.limit ≡ limit = ap (λ (v : SpaceView). v.parts.heap.limit) c.in-Ok-new.ensures.view ∙ one_limit (texts_of c.args.words.now.items) c.in-Some.limit limit c.in-Some.ensures words in
-    let Fails : ℕ → Type 0 = λ n. HasFailedWrite n (g.S.Source.rest c.args.source.now) (g.S.Source.rest c.replay.new.source) (g.K.Sink.written c.args.sink.now) (g.K.Sink.written c.replay.new.sink) in
-    subst Fails same (c.replay.ensures.front five)
+pub returns-clause-prefix : goal.returns-clause-prefix
+returns-clause-prefix g c = λ limit words status.
+    let end = is_write_fault c.replay.result (sym c.status.ensures ∙ status) in
+    rw end at (at_limit _ limit _ _ _ _ _ _ c.replay.result
+    (ap (λ (v : SpaceView). v.parts.heap.limit) c.in-Ok-new.ensures.view
+    ∙ one_limit (texts_of c.args.words.now.items) c.in-Some.limit limit c.in-Some.ensures words) c.replay.ensures.ends)
 
 pub returns-clause-limit : goal.returns-clause-limit
-returns-clause-limit g c = λ limit words six.
-    let same : c.in-Ok-new.space.parts.heap.limit ≡ limit = ap (λ (v : SpaceView). v.parts.heap.limit) c.in-Ok-new.ensures.view ∙ one_limit (texts_of c.args.words.now.items) c.in-Some.limit limit c.in-Some.ensures words in
-    let Reaches : ℕ → Type 0 = λ n. HasReachedLimit n (g.S.Source.rest c.args.source.now) (g.S.Source.rest c.replay.new.source) (g.K.Sink.written c.args.sink.now) (g.K.Sink.written c.replay.new.sink) in
-    subst Reaches same (c.replay.ensures.limit six)
+returns-clause-limit g c = λ limit words status.
+    let end = is_input_limit c.replay.result (sym c.status.ensures ∙ status) in
+    let reached = rw end at
+    (at_limit _ limit _ _ _ _ _ _ c.replay.result
+    (ap (λ (v : SpaceView). v.parts.heap.limit) c.in-Ok-new.ensures.view
+    ∙ one_limit (texts_of c.args.words.now.items) c.in-Some.limit limit c.in-Some.ensures words) c.replay.ensures.ends) in
+    reached.0
+
+pub returns-clause-ended_once : goal.returns-clause-ended_once
+returns-clause-ended_once g c = ends_once _ _ _ _ _ _ _ c.replay.result c.replay.ensures.ends
 
 pub returns-clause-complete : goal.returns-clause-complete
 returns-clause-complete g c = λ limit words input calm.
-    completes c.replay.result c.replay.ensures.status
-    (λ e. no_stop _ _ _ _ _ input (c.replay.ensures.malformed e))
-    (λ e. calm.source (c.replay.ensures.read_fault e))
-    (λ e. calm.sink (c.replay.ensures.write_fault e))
-    (λ e. no_limit _ _ _ _ _ input (c.replay.ensures.limit e))
+    inl (c.status.ensures
+    ∙ completes _ _ _ _ _ _ _ c.replay.result input (no_fault _ _ _ _ c.replay.result c.replay.ensures.failed calm).0
+    (no_fault _ _ _ _ c.replay.result c.replay.ensures.failed calm).1 c.replay.ensures.ends)
+
+pub returns-clause-stops : goal.returns-clause-stops
+returns-clause-stops g c = λ limit lines words input calm.
+    let ends = at_limit _ limit _ _ _ _ _ _ c.replay.result
+    (ap (λ (v : SpaceView). v.parts.heap.limit) c.in-Ok-new.ensures.view
+    ∙ one_limit (texts_of c.args.words.now.items) c.in-Some.limit limit c.in-Some.ensures words) c.replay.ensures.ends in
+    let none = no_fault _ _ _ _ c.replay.result c.replay.ensures.failed calm in
+    let there = stops limit _ _ _ _ _ _ c.replay.result lines input none.0 none.1 ends in
+    inl (c.status.ensures ∙ there.0, there.1)

@@ -1,6 +1,6 @@
 use Rattle.std.proofs.Common.{◌≡◌, length, IsTrue, arith, rules}
 use Rattle.space_run.proofs.WordsLemmas.{word_found, replay_alone, replay_pages}
-use Rattle.space_run.proofs.replay.page_limit.Goals as goal
+use Rattle.space_run.proofs.command_line.page_limit.Goals as goal
 
 pub returns-then-len-eq1 : goal.returns-then-len-eq1
 returns-then-len-eq1 c =
@@ -14,4 +14,5 @@ returns c =
     let first : IsTrue c.is_word.result = search rules in
     let second : IsTrue c.is_word-else-len-ne3.result = search rules in
     let third = word_found c.args.words.now.items 2 (omega arith) in
-    replay_pages c.args.words.now.items third.0 c.in_ok-pages.pages three (c.is_word.ensures.0 first) (c.is_word-else-len-ne3.ensures.0 second) third.1 (c.in_ok-pages.ensures third.0 third.1) (omega arith) (omega arith)
+    replay_pages c.args.words.now.items third.0 c.in_ok-pages.pages three (c.is_word.ensures.0 first) (c.is_word-else-len-ne3.ensures.0 second) third.1
+    (c.in_ok-pages.ensures third.0 third.1) (omega arith) (omega arith)

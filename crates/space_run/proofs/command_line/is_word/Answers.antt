@@ -1,6 +1,6 @@
 use Rattle.std.proofs.Common.{◌<◌, length, rules}
 use Rattle.space_run.proofs.WordsLemmas.{is_text}
-use Rattle.space_run.proofs.replay.is_word.Goals as goal
+use Rattle.space_run.proofs.command_line.is_word.Goals as goal
 
 pub returns : goal.returns
 returns c =
