@@ -3,7 +3,7 @@ use Rattle.std.proofs.Common.{◌≡◌, length, nat_eq, subst, sym, List}
 use Rattle.std.specs.List.{IsDistinct}
 use Rattle.space_model.specs.Graph.{Item}
 use Rattle.space_model.specs.Moments.{noted}
-use Rattle.space_model.specs.Sound.{Sound, SoundLayout, SoundCorpses, SoundSweep, SoundUsed, SoundResting, SoundCursor, SoundLeft, SoundStale, SoundNames, AreSoundItems, AreSoundRoots}
+use Rattle.space_model.specs.Sound.{Sound, SoundLayout, SoundCorpses, SoundSweep, SoundUsed, SoundResting, SoundCursor, SoundLeft, SoundStale, SoundNames, SoundKept, AreSoundItems, AreSoundRoots}
 use Rattle.space_model.specs.State.{State, Heap, Collector}
 use Rattle.space_model.proofs.NotedLaws.{SoundMoments-noted}
 
@@ -17,6 +17,7 @@ pub record SoundHeap (graph : List Item) (heap : Heap) (collector : Collector) :
   pub cursor : SoundCursor collector.phase collector.cursor
   pub left : SoundLeft graph heap.place heap.corpses heap.left heap.pages
   pub stale : SoundStale graph heap.place heap.left collector.stale collector.cursor
+  pub kept : SoundKept graph heap.place collector.kept
   pub outlived : length collector.outlived ≡ length graph
 
 -- all that is asked of a sound state but for what was noted
@@ -37,6 +38,7 @@ heap_of s h = record {
   cursor = h.cursor;
   left = h.left;
   stale = h.stale;
+  kept = h.kept;
   outlived = h.outlived;
 }
 
@@ -53,6 +55,7 @@ after_piece u t e h = subst Sound (sym e) (record {
   names = h.names;
   items = h.items;
   roots = h.roots;
+  kept = h.heap.kept;
   outlived = h.heap.outlived;
   moments = SoundMoments-noted u h.once;
 })

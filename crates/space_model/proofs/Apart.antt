@@ -5,7 +5,7 @@ use Rattle.std.specs.Str.{bytes_eq}
 use Rattle.space_model.specs.declared.value.Value.TheVariants.{Nil, Small, Name}
 use Rattle.space_model.specs.declared.event.Event.TheVariants.{Gone, Verdict}
 use Rattle.space_model.specs.declared.event.Kind.TheVariants.{Minor, Major, Full as FullKind}
-use Rattle.space_model.specs.declared.reply.Refusal.TheVariants.{TooLarge, NoRoot, NoWord, NotObject, NoField}
+use Rattle.space_model.specs.declared.reply.Refusal.TheVariants.{TooLarge, NoRoot, NoWord, NotObject, NoField, Protected}
 use Rattle.space_model.specs.declared.reply.Reply.TheVariants.{Made, Full, NoMemory, Done, Pushed, Read, Truth, Scanned, Refused}
 use Rattle.space_model.specs.Outputs.{Output, Told, Replied}
 use Rattle.space_model.specs.Lines.{lines_of}
@@ -41,7 +41,8 @@ forms n =
     ∷ Replied (Read Nil) ∷ Replied (Read (Small (n 0))) ∷ Replied (Read (Name (n 0)))
     ∷ Replied (Truth true) ∷ Replied (Truth false)
     ∷ Replied (Scanned (n 0))
-    ∷ Replied (Refused TooLarge) ∷ Replied (Refused NoRoot) ∷ Replied (Refused NoWord) ∷ Replied (Refused NotObject) ∷ Replied (Refused NoField) ∷ []
+    ∷ Replied (Refused TooLarge) ∷ Replied (Refused NoRoot) ∷ Replied (Refused NoWord) ∷ Replied (Refused NotObject) ∷ Replied (Refused NoField)
+    ∷ Replied (Refused Protected) ∷ []
 
 abbrev pub pick : List Output → List Token → Option Output
 pick [] ts = None

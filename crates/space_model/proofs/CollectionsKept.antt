@@ -5,6 +5,7 @@ use Rattle.std.specs.FinMap.{get}
 use Rattle.std.proofs.lemmas.Bool.{false_from_ne_true}
 use Rattle.space_model.specs.declared.event.Kind.{Kind}
 use Rattle.space_model.specs.declared.phase.Phase.TheVariants.{Sweeping, Moving, Fixing}
+use Rattle.space_model.specs.Ages.{aged}
 use Rattle.space_model.specs.Markings.{mark_started, StartMark, took, Took}
 use Rattle.space_model.specs.Sweeps.{sweep_phase, swept, Sweep1, Sweeps, SweepAll}
 use Rattle.space_model.specs.Graph.{IsChild}
@@ -18,6 +19,7 @@ use Rattle.space_model.specs.Verdicts.{IsVerdict}
 use Rattle.space_model.proofs.AfterPieces.{SoundHeap, after_piece}
 use Rattle.space_model.proofs.AgeLaws.{aged-length}
 use Rattle.space_model.proofs.CorpsesKept.{placed_swept, SoundCorpses-took, SoundCorpses-swept}
+use Rattle.space_model.proofs.KeptNames.{SoundKept-verdict}
 use Rattle.space_model.proofs.LeftKept.{SoundLeft-none, SoundStale-none}
 use Rattle.space_model.proofs.MapLaws.{held_without, left-without, present-without}
 use Rattle.space_model.proofs.PageLaws.{length-spared}
@@ -39,6 +41,7 @@ Sound-mark_started s h = record {
   names = h.names;
   items = h.items;
   roots = h.roots;
+  kept = h.kept;
   outlived = h.outlived;
   moments = record { seen = λ n r. (member-reached_names s n).1 r; once = reached_names-once s; mixed = λ n m. m };
 }
@@ -72,6 +75,8 @@ took_heap s kind taken a b v h =
       cursor = λ _. h.cursor b;
       left = SoundLeft-none s.graph (without s.heap.place taken) (carried_over s.heap.place s.heap.corpses taken) s.heap.left s.heap.pages rests.0;
       stale = SoundStale-none s.graph (without s.heap.place taken) s.heap.left s.collector.stale s.collector.cursor rests.1;
+      kept = SoundKept-verdict kind s.graph s.heap.place (without s.heap.place taken) (aged (without s.heap.place taken) s.collector.outlived)
+          s.collector.kept h.kept;
       outlived = aged-length (without s.heap.place taken) s.collector.outlived ∙ h.outlived;
     }
 
@@ -106,6 +111,7 @@ swept_heap s page others freed first all h =
       cursor = λ _. h.cursor (λ e. cc);
       left = SoundLeft-none s.graph s.heap.place (without s.heap.corpses freed) s.heap.left (spared s.heap.place page s.heap.pages) rests.0;
       stale = SoundStale-none s.graph s.heap.place s.heap.left s.collector.stale s.collector.cursor rests.1;
+      kept = h.kept;
       outlived = h.outlived;
     }
 

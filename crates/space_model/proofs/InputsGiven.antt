@@ -60,7 +60,7 @@ words_given texts (word ∷ words) (text, others, _, first, later) = (word_given
 
 -- what a line is given by its words
 pub command_given : (words : List (List ℕ)) (command : Command) → IsCommand words command → IsGiven command
-command_given words command (forms, line) = words_given words (form_of command) forms
+command_given words command forms = words_given words (form_of command) forms
 
 found_given : (line : List ℕ) (found : Option Command) (rest : List Command) → IsReading line found → AreGiven rest →
     AreGiven (option_to_list found ++ rest)

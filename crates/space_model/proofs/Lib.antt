@@ -3,6 +3,7 @@ pub mod IdentLemmas
 pub mod Members
 pub mod Reaching
 pub mod Growing
+pub mod LedNames
 pub mod ReachedLaws
 pub mod NotedLaws
 pub mod MapLaws
@@ -11,12 +12,15 @@ pub mod SlotLaws
 pub mod StoredWordLaws
 pub mod LayoutKept
 pub mod NamesKept
+pub mod KeptNames
+pub mod SameShapes
 pub mod CorpsesKept
 pub mod LeftKept
 pub mod SweepKept
 pub mod AgeLaws
 pub mod ValuesHold
 pub mod ValuesKept
+pub mod UnprotectedNames
 pub mod StackWords
 pub mod AfterPieces
 pub mod CollectionsKept
@@ -25,8 +29,10 @@ pub mod CorpseNames
 pub mod VerdictLaws
 pub mod SweptLaws
 pub mod ToldNames
+pub mod PassingNames
 pub mod Leaving
 pub mod WholeLaws
+pub mod MinorLaws
 pub mod Stages
 pub mod RepliedPieces
 pub mod FullLaws

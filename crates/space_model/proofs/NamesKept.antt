@@ -13,16 +13,16 @@ use Rattle.space_model.specs.declared.object.Guard.{Guard}
 use Rattle.space_model.specs.declared.object.Style.{Style}
 use Rattle.space_model.specs.declared.value.Value.{Value}
 use Rattle.space_model.specs.declared.value.Value.TheVariants.{Nil, Name}
+use Rattle.space_model.specs.Ages.{is_protected, is_protected_guard}
 use Rattle.space_model.specs.Graph.{Item, no_item, item_of, with_item, names_of, children, IsChild}
-use Rattle.space_model.specs.Layout.{pool_for}
 use Rattle.space_model.specs.Pieces.{new_item, born, item_written}
 use Rattle.space_model.specs.Roots.{Root, root_names, with_root, without_root}
-use Rattle.space_model.specs.Sound.{AreSlots, SoundNames, SoundLayout, SoundCorpses, SoundLeft, SoundStale}
+use Rattle.space_model.specs.Sound.{AreSlots, SoundNames, SoundStale, SoundKept}
 use Rattle.space_model.specs.State.{State}
 use Rattle.space_model.specs.StoredWords.{is_stale, without_pair}
 use Rattle.space_model.proofs.MapLaws.{get-insert_name, present-insert, some_get}
 use Rattle.space_model.proofs.Members.{member_cases, member_left, member_right}
-use Rattle.space_model.proofs.SlotLaws.{item_of-at, with_item-at, length-with_item, item_of-push, item_of-new, AreSlots-same}
+use Rattle.space_model.proofs.SlotLaws.{item_of-at, with_item-at, length-with_item, item_of-push, item_of-new}
 use Rattle.space_model.proofs.StoredWordLaws.{stale-without_pair}
 
 no_names : (fields : ℕ) → flat_map names_of (replicate fields Nil) ≡ []
@@ -109,9 +109,10 @@ module _ (s : State) (root : List ℕ) (fields : ℕ) (guard : Guard) (style : S
         (root_names-with_root s.roots root (Name new) n m);
   }
 
-item_of-field_written : (graph : List Item) (name : ℕ) (item : Item) (q : ℕ) → 0 < name → name ≤ length graph → 0 < q →
+-- another item for a name
+pub item_of-with_item : (graph : List Item) (name : ℕ) (item : Item) (q : ℕ) → 0 < name → name ≤ length graph → 0 < q →
     ((q ≡ name) × (item_of (with_item graph name item) q ≡ item)) ⊎ ((q ≢ name) × (item_of (with_item graph name item) q ≡ item_of graph q))
-item_of-field_written graph name item q some born some_q = rw (with_item-at graph name item some) (⊎_elim
+item_of-with_item graph name item q some born some_q = rw (with_item-at graph name item some) (⊎_elim
     (λ same. inl (
       same,
       item_of-at (set graph (name - 1) item) q some_q ∙ ap (λ x. get_or (set graph (name - 1) item) (x - 1) no_item) same
@@ -148,7 +149,7 @@ module _ (s : State) (name index : ℕ) (value : Value) (l : AreSlots s.graph s.
 
   item_cases : (q : ℕ) → 0 < q →
       ((q ≡ name) × (item_of written_graph q ≡ item_written (item_of s.graph name) index value)) ⊎ ((q ≢ name) × (item_of written_graph q ≡ item_of s.graph q))
-  item_cases q some_q = item_of-field_written s.graph name (item_written (item_of s.graph name) index value) q some old some_q
+  item_cases q some_q = item_of-with_item s.graph name (item_written (item_of s.graph name) index value) q some old some_q
 
   -- a child is one from before, or what was written
   child_cases : (m n : ℕ) → 0 < m → IsChild written_graph m n → IsChild s.graph m n ⊎ (is_member nat_eq (names_of value) n ≡ true)
@@ -161,15 +162,27 @@ module _ (s : State) (name index : ℕ) (value : Value) (l : AreSlots s.graph s.
       (λ (d, e). inl (sym (ap (λ (item : Item). is_member nat_eq (flat_map names_of item.values) n) e) ∙ c))
       (item_cases m some_m)
 
-  shape : (q : ℕ) → 0 < q → length (item_of written_graph q).values ≡ length (item_of s.graph q).values
-  shape q some_q = ⊎_elim
+  pub written_shape : (q : ℕ) → 0 < q → length (item_of written_graph q).values ≡ length (item_of s.graph q).values
+  written_shape q some_q = ⊎_elim
       (λ (same, e). ap (λ (item : Item). length item.values) e ∙ length-set (item_of s.graph name).values index value
       ∙ ap (λ x. length (item_of s.graph x).values) (sym same))
       (λ (d, e). ap (λ (item : Item). length item.values) e)
       (item_cases q some_q)
 
-  long : length written_graph ≡ length s.graph
-  long = length-with_item s.graph name (item_written (item_of s.graph name) index value)
+  pub written_long : length written_graph ≡ length s.graph
+  written_long = length-with_item s.graph name (item_written (item_of s.graph name) index value)
+
+  protects : (q : ℕ) → 0 < q → is_protected written_graph q ≡ is_protected s.graph q
+  protects q some_q = ⊎_elim
+      (λ (same, e). ap (λ (item : Item). is_protected_guard item.guard) e ∙ ap (is_protected s.graph) (sym same))
+      (λ (d, e). ap (λ (item : Item). is_protected_guard item.guard) e)
+      (item_cases q some_q)
+
+  pub SoundKept-field_written : SoundKept s.graph s.heap.place s.collector.kept → SoundKept written_graph s.heap.place s.collector.kept
+  SoundKept-field_written h n m =
+      let k = h n m in
+      let a = some_get (get s.heap.place n) k.0 in
+      (k.0, protects n (l.allocated n a.0 a.1).0 ∙ k.1)
 
   pub SoundNames-field_written : ((n : ℕ) → is_member nat_eq (names_of value) n ≡ true → is_some (get s.heap.place n) ≡ true) →
       SoundNames s.graph s.roots s.heap.place → SoundNames written_graph s.roots s.heap.place
@@ -177,33 +190,6 @@ module _ (s : State) (name index : ℕ) (value : Value) (l : AreSlots s.graph s.
     children_present = λ m n p c. let a = some_get (get s.heap.place m) p in let b = l.allocated m a.0 a.1 in
         ⊎_elim (λ k. h.children_present m n p k) (λ k. present n k) (child_cases m n b.0 c);
     roots_present = h.roots_present;
-  }
-
-  pub SoundLayout-field_written : SoundLayout s.graph s.heap.place s.heap.pages s.heap.limit → SoundLayout written_graph s.heap.place s.heap.pages s.heap.limit
-  SoundLayout-field_written h = record {
-    placed = AreSlots-same s.graph written_graph s.heap.pages s.heap.pages s.heap.place (let e = long in omega arith) (λ n a _. ap pool_for (shape n a))
-        (λ n a _. refl) h.placed;
-    limited = h.limited;
-  }
-
-  pub SoundCorpses-field_written : SoundCorpses s.graph s.heap.place s.heap.corpses s.heap.pages s.heap.unswept →
-      SoundCorpses written_graph s.heap.place s.heap.corpses s.heap.pages s.heap.unswept
-  SoundCorpses-field_written h = record {
-    slots = AreSlots-same s.graph written_graph s.heap.pages s.heap.pages s.heap.corpses (let e = long in omega arith) (λ n a _. ap pool_for (shape n a))
-        (λ n a _. refl) h.slots;
-    gone = h.gone;
-    apart = h.apart;
-    on_unswept = h.on_unswept;
-  }
-
-  pub SoundLeft-field_written : SoundLeft s.graph s.heap.place s.heap.corpses s.heap.left s.heap.pages →
-      SoundLeft written_graph s.heap.place s.heap.corpses s.heap.left s.heap.pages
-  SoundLeft-field_written h = record {
-    slots = AreSlots-same s.graph written_graph s.heap.pages s.heap.pages s.heap.left (let e = long in omega arith) (λ n a _. ap pool_for (shape n a))
-        (λ n a _. refl) h.slots;
-    present = h.present;
-    apart = h.apart;
-    apart_corpses = h.apart_corpses;
   }
 
   -- another field holds what it held

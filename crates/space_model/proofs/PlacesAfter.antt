@@ -30,7 +30,7 @@ use Rattle.space_model.specs.ToldInOrder.{AreToldInOrder}
 use Rattle.space_model.proofs.Leaving.{Leaves}
 use Rattle.space_model.proofs.MapLaws.{get-insert_name, get-without, some_get}
 use Rattle.space_model.proofs.Reaching.{IsReached-least}
-use Rattle.space_model.proofs.RepliedPieces.{IsPiece, Nothing, Root, Dropped, Stack, Field, replied_piece}
+use Rattle.space_model.proofs.RepliedPieces.{IsPiece, Nothing, Root, Dropped, Stack, Field, Guard as GuardPiece, replied_piece}
 use Rattle.space_model.proofs.Stages.{passed_leaves}
 use Rattle.space_model.proofs.ToldNames.{gone_among, gone_outputs, AreToldInOrder-append}
 use Rattle.space_model.proofs.WholeLaws.{leaves_collected}
@@ -92,6 +92,7 @@ piece_heap given s t (Root root value ident valid after) = ap (λ (u : State). u
 piece_heap given s t (Dropped root after) = ap (λ (u : State). u.heap) after
 piece_heap given s t (Stack words after) = ap (λ (u : State). u.heap) after
 piece_heap given s t (Field name index value object valid after) = ap (λ (u : State). u.heap) after
+piece_heap given s t (GuardPiece name object after) = ap (λ (u : State). u.heap) after
 
 -- what is present was allocated
 present_old : (s : State) → Sound s → (n : ℕ) → is_present s n ≡ true → n ≤ length s.graph

@@ -1,5 +1,5 @@
 -- The list of reached names has exactly these, each once.
-use Rattle.std.proofs.Common.{◌≡◌, ℕ, zero, suc, true, List, [], ◌∷◌, ◌++◌, length, nat_eq, get_or, refl, sym, ap, ◌∙◌, inl, inr, ⊎_elim, arith, Option, None, Some}
+use Rattle.std.proofs.Common.{◌≡◌, ℕ, true, List, [], ◌∷◌, nat_eq, refl, sym, ap, ◌∙◌, inl, inr, ⊎_elim, arith, Option, None, Some}
 use Rattle.std.specs.Prelude.{is_some, ◌↔◌}
 use Rattle.std.specs.List.{flat_map, list_any, IsDistinct}
 use Rattle.std.specs.Set.{is_member}
@@ -7,15 +7,13 @@ use Rattle.std.specs.Ordering.{nat_cmp, eq_by_cmp}
 use Rattle.std.specs.FinMap.{FinMap, get, keys, contains_key-keys}
 use Rattle.std.proofs.lemmas.Bool.{and_parts, and_from, eqb-true, eq-eqb, false≢true}
 use Rattle.std.proofs.lemmas.Bool.Decides.{nat_tests}
-use Rattle.space_model.specs.Graph.{Item, no_item, names_of, children, IsChild}
 use Rattle.space_model.specs.State.{State}
-use Rattle.space_model.specs.Reach.{IsReached, IsStart, Reach}
+use Rattle.space_model.specs.Reach.{IsStart, Reach}
 use Rattle.space_model.specs.Roots.{root_names}
 use Rattle.space_model.specs.Maps.{is_at, names_at}
-use Rattle.space_model.specs.Reached.{start_names, field_names, reached_in, reached_names}
+use Rattle.space_model.specs.Reached.{start_names, reached_in, reached_names}
 use Rattle.space_model.proofs.Members.{member_left, member_right, member_cases, member_flat, member_unflat, member_filter}
-use Rattle.space_model.proofs.Reaching.{IsReached-start, IsReached-least, IsReached-mono}
-use Rattle.space_model.proofs.Growing.{IsPart, grown_times-part, grown_times-whole, nothing-part}
+use Rattle.space_model.proofs.LedNames.{led_names-once, member-led_names}
 
 pub ties : (x y : ℕ) → eq_by_cmp nat_cmp x y ≡ nat_eq x y
 ties x y = grind (arith, nat_tests)
@@ -53,45 +51,12 @@ member-start_names s n = (
       h),
 )
 
-field_at : (graph : List Item) (i n : ℕ) → is_member nat_eq (flat_map names_of (get_or graph i no_item).values) n ≡ true →
-    is_member nat_eq (flat_map (λ item. flat_map names_of item.values) graph) n ≡ true
-field_at [] i n m = absurd (false≢true m)
-field_at (item ∷ graph) zero n m = member_left (flat_map names_of item.values) _ n m
-field_at (item ∷ graph) (suc i) n m = member_right (flat_map names_of item.values) _ n (field_at graph i n m)
-
-pub member-field_names : (graph : List Item) (parent n : ℕ) → IsChild graph parent n → is_member nat_eq (field_names graph) n ≡ true
-unfolding field_names children
-member-field_names graph zero n c = absurd (false≢true c)
-member-field_names graph (suc index) n c = field_at graph index n c
-
 module _ (s : State) where
-  starts : List ℕ
-  starts = start_names s.roots s.stack s.heap.place
-
-  abbrev Listed : ℕ → Type 0
-  Listed n = is_member nat_eq (start_names s.roots s.stack s.heap.place) n ≡ true
-
-  all_names : (n : ℕ) → IsReached (IsChild s.graph) Listed n → is_member nat_eq (start_names s.roots s.stack s.heap.place ++ field_names s.graph) n ≡ true
-  all_names = IsReached-least (IsChild s.graph) Listed (λ n. is_member nat_eq (start_names s.roots s.stack s.heap.place ++ field_names s.graph) n ≡ true)
-      (λ m n h c. member_right (start_names s.roots s.stack s.heap.place) _ n (member-field_names s.graph m n c))
-      (λ n h. member_left (start_names s.roots s.stack s.heap.place) _ n h)
-
-  part : IsPart (start_names s.roots s.stack s.heap.place) (children s.graph) (reached_names s)
-  unfolding reached_in
-  part = grown_times-part (start_names s.roots s.stack s.heap.place) (children s.graph)
-      (length (start_names s.roots s.stack s.heap.place ++ field_names s.graph)) [] (nothing-part (start_names s.roots s.stack s.heap.place) (children s.graph))
-
   pub reached_names-once : IsDistinct nat_eq (reached_names s)
-  reached_names-once = part.0
+  unfolding reached_in
+  reached_names-once = led_names-once s.graph (start_names s.roots s.stack s.heap.place)
 
   -- each name of the list is reached, and each reached name is in the list
   pub member-reached_names : (n : ℕ) → (is_member nat_eq (reached_names s) n ≡ true) ↔ Reach s n
   unfolding reached_in
-  member-reached_names n = (
-    (λ m. IsReached-mono (IsChild s.graph) (IsChild s.graph) Listed (IsStart s) (λ a b c. c)
-        (λ a h. IsReached-start (IsChild s.graph) (IsStart s) a ((member-start_names s a).0 h)) n (part.1 n m)),
-    (λ r. grown_times-whole (start_names s.roots s.stack s.heap.place) (children s.graph)
-        (start_names s.roots s.stack s.heap.place ++ field_names s.graph) all_names n
-        (IsReached-mono (IsChild s.graph) (IsChild s.graph) (IsStart s) Listed (λ a b c. c)
-        (λ a h. IsReached-start (IsChild s.graph) Listed a ((member-start_names s a).1 h)) n r)),
-  )
+  member-reached_names n = member-led_names s.graph (start_names s.roots s.stack s.heap.place) (IsStart s) (member-start_names s) n

@@ -1,34 +1,37 @@
 -- What a command without events does to a state: nothing, or one piece of work.
-use Rattle.std.proofs.Common.{◌≡◌, ℕ, List, [], ◌∷◌, ◌++◌, refl, ⊎_elim, Option, None, Some, Result, Ok, Err}
+use Rattle.std.proofs.Common.{◌≡◌, ℕ, Bool, true, false, if◌then◌else◌, List, [], ◌∷◌, ◌++◌, refl, ⊎_elim, Option, None, Some, Result, Ok, Err}
 use Rattle.space_model.specs.declared.command.Command.{Command}
 use Rattle.space_model.specs.declared.command.Command.TheVariants.{New, Set, DropRoot, Push, Raw, Pop, Store, Load, Same, Gc}
 use Rattle.space_model.specs.declared.command.Input.{Input}
 use Rattle.space_model.specs.declared.command.Operand.{Operand}
 use Rattle.space_model.specs.declared.reply.Refusal.{Refusal}
+use Rattle.space_model.specs.declared.reply.Refusal.TheVariants.{Protected}
 use Rattle.space_model.specs.declared.reply.Reply.{Reply}
 use Rattle.space_model.specs.declared.reply.Reply.TheVariants.{Done, Read}
 use Rattle.space_model.specs.declared.value.Value.{Value}
 use Rattle.space_model.specs.declared.value.Value.TheVariants.{Name}
+use Rattle.space_model.specs.Ages.{is_protected}
 use Rattle.space_model.specs.CommandTexts.{IsWritableInput}
 use Rattle.space_model.specs.Given.{IsGiven}
 use Rattle.space_model.specs.Idents.{IsIdent}
 use Rattle.space_model.specs.Lawful.{Replies}
-use Rattle.space_model.specs.ObjectCommands.{written_field, StoreReply}
-use Rattle.space_model.specs.Operands.{operand_value, input_value}
-use Rattle.space_model.specs.Pieces.{RootWritten, RootDropped, StackReplaced, FieldWritten}
+use Rattle.space_model.specs.ObjectCommands.{written_field, StoreReply, unguarded, UnprotectReply}
+use Rattle.space_model.specs.Operands.{operand_value, input_value, object_in}
+use Rattle.space_model.specs.Pieces.{RootWritten, RootDropped, StackReplaced, FieldWritten, MadeUnprotected}
+use Rattle.space_model.specs.Refusals.{and_then}
 use Rattle.space_model.specs.RootCommands.{WritesRoot, SetReply, DropReply, field_value, LoadReply}
 use Rattle.space_model.specs.Roots.{root_value}
 use Rattle.space_model.specs.Sound.{Sound, IsSmall}
 use Rattle.space_model.specs.StackCommands.{PushesWord, PushReply, Pops}
 use Rattle.space_model.specs.State.{State}
-use Rattle.space_model.proofs.ValuesHold.{input_holds, read_holds, write_holds}
+use Rattle.space_model.proofs.ValuesHold.{input_holds, read_holds, write_holds, named_holds}
 use Rattle.space_model.proofs.ValuesKept.{IsPresentValue, present_kept, small_kept}
 
 -- in a sound state the value is present, and small, where what is given is
 abbrev pub IsValid : Type 0 → State → Value → Type 0
 IsValid given s value = given → Sound s → IsPresentValue s.heap.place value × IsSmall value
 
--- nothing was changed; or a root was written or taken away, the stack replaced, or a field written
+-- nothing was changed; or a root was written or taken away, the stack replaced, a field written, or a name made unprotected
 pub data IsPiece (given : Type 0) (s t : State) : Type 0 where
   Nothing : (same : t ≡ s) → IsPiece given s t
   Root : (root : List ℕ) → (value : Value) → (ident : given → IsIdent root) → (valid : IsValid given s value) →
@@ -37,6 +40,7 @@ pub data IsPiece (given : Type 0) (s t : State) : Type 0 where
   Stack : (words : List ℕ) → (after : StackReplaced s words t) → IsPiece given s t
   Field : (name index : ℕ) → (value : Value) → (object : IsValid given s (Name name)) → (valid : IsValid given s value) →
       (after : FieldWritten s name index value t) → IsPiece given s t
+  Guard : (name : ℕ) → (object : IsValid given s (Name name)) → (after : MadeUnprotected s name t) → IsPiece given s t
 
 module _ (given : Type 0) (s t : State) where
   root_piece : (root : List ℕ) (value : Value) (answer reply : Reply) → (given → IsIdent root) → IsValid given s value →
@@ -91,6 +95,27 @@ module _ (given : Type 0) (s t : State) where
       ))
       e.1
   store_piece object index input (Err why) reply small f e = Nothing e.unchanged
+
+  unguarded_piece : (object : Operand) (index : ℕ) (input : Input) (written : ℕ × Value) (protects : Bool) (reply : Reply) →
+      (given → IsWritableInput input) → written_field s.graph (operand_value s object) index (input_value s input) ≡ Ok written →
+      StoreReply s index (if protects then Err Protected else Ok written) reply t → IsPiece given s t
+  unguarded_piece object index input written true reply small f e = Nothing e.unchanged
+  unguarded_piece object index input written false reply small f e = store_piece object index input (Ok written) reply small f e
+
+  raw_store_piece : (object : Operand) (index : ℕ) (input : Input) (found : Result (ℕ × Value) Refusal) (reply : Reply) →
+      (given → IsWritableInput input) → written_field s.graph (operand_value s object) index (input_value s input) ≡ found →
+      StoreReply s index (and_then found (unguarded s.graph)) reply t → IsPiece given s t
+  raw_store_piece object index input (Ok written) reply small f e =
+      unguarded_piece object index input written (is_protected s.graph written.0) reply small f e
+  raw_store_piece object index input (Err why) reply small f e = Nothing e.unchanged
+
+  unprotect_piece : (object : Operand) (found : Result ℕ Refusal) (reply : Reply) → and_then (operand_value s object) object_in ≡ found →
+      UnprotectReply s found reply t → IsPiece given s t
+  unprotect_piece object (Ok name) reply f e =
+      Guard name
+      (λ g h. (named_holds s (IsPresentValue s.heap.place) (present_kept s h) object name f, named_holds s IsSmall (small_kept s h) object name f))
+      e.1
+  unprotect_piece object (Err why) reply f e = Nothing e.unchanged
 
 -- the piece of each command
 pub replied_piece : (s t : State) (command : Command) (reply : Reply) → Replies s command reply t → IsPiece (IsGiven command) s t

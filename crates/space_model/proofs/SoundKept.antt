@@ -17,14 +17,14 @@ use Rattle.space_model.specs.declared.reply.Reply.{Reply}
 use Rattle.space_model.specs.declared.reply.Reply.TheVariants.{Made, Full, NoMemory, Refused}
 use Rattle.space_model.specs.declared.value.Value.{Value}
 use Rattle.space_model.specs.declared.value.Value.TheVariants.{Name}
-use Rattle.space_model.specs.Graph.{IsChild, item_of}
+use Rattle.space_model.specs.Graph.{IsChild, item_of, with_item}
 use Rattle.space_model.specs.Idents.{IsIdent}
 use Rattle.space_model.specs.Lawful.{Effects, Lawful, LawfulAll}
 use Rattle.space_model.specs.Layout.{most_fields, page_of, pool_for}
 use Rattle.space_model.specs.Moments.{noted, mixed_in}
 use Rattle.space_model.specs.NewCommand.{Stage, stages_before_page, all_stages, Finds, AnswersNew}
 use Rattle.space_model.specs.Outputs.{Output}
-use Rattle.space_model.specs.Pieces.{new_item, item_written, born, root_written, root_dropped, stack_replaced, field_written}
+use Rattle.space_model.specs.Pieces.{new_item, item_written, item_unprotected, born, root_written, root_dropped, stack_replaced, field_written, unprotected}
 use Rattle.space_model.specs.Reach.{IsStart, Reach}
 use Rattle.space_model.specs.Roots.{root_names}
 use Rattle.space_model.specs.Given.{IsGiven, AreGiven}
@@ -33,17 +33,19 @@ use Rattle.space_model.specs.State.{State, opening}
 use Rattle.space_model.specs.StoredWords.{without_pair}
 use Rattle.space_model.proofs.AfterPieces.{heap_of, after_piece}
 use Rattle.space_model.proofs.CorpsesKept.{SoundCorpses-born}
+use Rattle.space_model.proofs.KeptNames.{SoundKept-born}
 use Rattle.space_model.proofs.LayoutKept.{fresh_slot, fresh_corpse, fresh_left, SoundLayout-born}
 use Rattle.space_model.proofs.LeftKept.{SoundLeft-none, SoundStale-none, SoundLeft-born, SoundStale-born}
 use Rattle.space_model.proofs.MapLaws.{some_get}
-use Rattle.space_model.proofs.NamesKept.{SoundNames-born, SoundNames-root_written, SoundNames-root_dropped, SoundNames-field_written, SoundLayout-field_written, SoundCorpses-field_written, SoundLeft-field_written, SoundStale-field_written}
+use Rattle.space_model.proofs.NamesKept.{written_shape, written_long, SoundNames-born, SoundNames-root_written, SoundNames-root_dropped, SoundNames-field_written, SoundStale-field_written, SoundKept-field_written}
 use Rattle.space_model.proofs.SweepKept.{SoundSweep-born, SoundUsed-born}
 use Rattle.space_model.proofs.Members.{member_filter}
 use Rattle.space_model.proofs.ReachedLaws.{member-keys}
 use Rattle.space_model.proofs.Reaching.{IsReached-least}
-use Rattle.space_model.proofs.RepliedPieces.{IsPiece, Nothing, Root, Dropped, Stack, Field, replied_piece}
-use Rattle.space_model.proofs.SlotLaws.{length-with_item}
+use Rattle.space_model.proofs.RepliedPieces.{IsPiece, Nothing, Root, Dropped, Stack, Field, Guard as GuardPiece, replied_piece}
+use Rattle.space_model.proofs.SameShapes.{SoundLayout-shaped, SoundCorpses-shaped, SoundLeft-shaped}
 use Rattle.space_model.proofs.Stages.{passed_sound}
+use Rattle.space_model.proofs.UnprotectedNames.{unprotected_shape, unprotected_long, SoundNames-unprotected, SoundStale-unprotected, SoundKept-unprotected, AreSoundItems-unprotected}
 use Rattle.space_model.proofs.WholeLaws.{collects_sound}
 use Rattle.space_model.proofs.ValuesKept.{IsPresentValue, name_present, AreSoundItems-push, AreSoundItems-field_written, AreSoundRoots-with_root, AreSoundRoots-without_root}
 
@@ -106,6 +108,7 @@ Sound-opening limit = record {
     children_present = λ m n p c. absurd (nothing_present m p);
     roots_present = λ n m. absurd (no_root n m);
   };
+  kept = λ n m. absurd (false≢true m);
   outlived = refl;
   moments = record {
     seen = λ n r. absurd (nothing_reached limit n r);
@@ -130,6 +133,8 @@ Sound-born s t root fields guard style address stage ident few found e h =
         cursor = h.cursor;
         left = SoundLeft-born s root fields guard style address h.layout fresh (fresh_left s fields address stage h.left.slots found) h.left;
         stale = SoundStale-born s fields guard style address h.layout.placed h.stale;
+        kept = SoundKept-born s.graph s.heap.pages s.heap.place s.collector.kept (new_item guard style fields) (length s.graph + 1) address h.layout.placed
+            h.kept;
         outlived = (let a = h.outlived in omega arith);
       };
       names = SoundNames-born s root fields guard style address h.layout.placed h.names;
@@ -172,20 +177,48 @@ pub Sound-field_written : (s t : State) (name index : ℕ) (value : Value) → i
 Sound-field_written s t name index value there present small e h =
     let at = some_get (get s.heap.place name) there in
     let b = h.layout.placed.allocated name at.0 at.1 in
+    let written = with_item s.graph name (item_written (item_of s.graph name) index value) in
+    let shape = written_shape s name index value h.layout.placed b.0 b.1 in
+    let long = written_long s name index value h.layout.placed b.0 b.1 in
     after_piece (field_written s name index value) t e (record {
       heap = record {
-        layout = SoundLayout-field_written s name index value h.layout.placed b.0 b.1 h.layout;
-        corpses = SoundCorpses-field_written s name index value h.layout.placed b.0 b.1 h.corpses;
+        layout = SoundLayout-shaped s.graph written long shape s.heap.place s.heap.pages s.heap.limit h.layout;
+        corpses = SoundCorpses-shaped s.graph written long shape s.heap.place s.heap.corpses s.heap.pages s.heap.unswept h.corpses;
         sweep = h.sweep;
         used = h.used;
         resting = λ a b. let rests = h.resting a b in (rests.0, ap (λ stale. without_pair stale name index) rests.1);
         cursor = h.cursor;
-        left = SoundLeft-field_written s name index value h.layout.placed b.0 b.1 h.left;
+        left = SoundLeft-shaped s.graph written long shape s.heap.place s.heap.corpses s.heap.left s.heap.pages h.left;
         stale = SoundStale-field_written s name index value h.layout.placed b.0 b.1 h.stale;
-        outlived = h.outlived ∙ sym (length-with_item s.graph name (item_written (item_of s.graph name) index value));
+        kept = SoundKept-field_written s name index value h.layout.placed b.0 b.1 h.kept;
+        outlived = h.outlived ∙ sym long;
       };
       names = SoundNames-field_written s name index value h.layout.placed b.0 b.1 present h.names;
       items = AreSoundItems-field_written s.graph name index value small h.items;
+      roots = h.roots;
+      once = h.moments.once;
+    })
+
+pub Sound-unprotected : (s t : State) (name : ℕ) → is_some (get s.heap.place name) ≡ true → t ≡ noted (unprotected s name) → Sound s → Sound t
+Sound-unprotected s t name there e h =
+    let now = with_item s.graph name (item_unprotected (item_of s.graph name)) in
+    let shape = unprotected_shape s name h.layout.placed there in
+    let long = unprotected_long s name h.layout.placed there in
+    after_piece (unprotected s name) t e (record {
+      heap = record {
+        layout = SoundLayout-shaped s.graph now long shape s.heap.place s.heap.pages s.heap.limit h.layout;
+        corpses = SoundCorpses-shaped s.graph now long shape s.heap.place s.heap.corpses s.heap.pages s.heap.unswept h.corpses;
+        sweep = h.sweep;
+        used = h.used;
+        resting = h.resting;
+        cursor = h.cursor;
+        left = SoundLeft-shaped s.graph now long shape s.heap.place s.heap.corpses s.heap.left s.heap.pages h.left;
+        stale = SoundStale-unprotected s name h.layout.placed there h.stale;
+        kept = SoundKept-unprotected s name h.layout.placed there h.kept;
+        outlived = h.outlived ∙ sym long;
+      };
+      names = SoundNames-unprotected s name h.layout.placed there h.names;
+      items = AreSoundItems-unprotected s name h.layout.placed there h.items;
       roots = h.roots;
       once = h.moments.once;
     })
@@ -211,6 +244,7 @@ piece_sound given s t i (Stack words after) h = Sound-stack_replaced s t words a
 piece_sound given s t i (Field name index value object valid after) h =
     let v = valid i h in
     Sound-field_written s t name index value (name_present s.heap.place name (object i h).0) v.0 v.1 after h
+piece_sound given s t i (GuardPiece name object after) h = Sound-unprotected s t name (name_present s.heap.place name (object i h).0) after h
 
 effects_sound : (s t : State) (command : Command) (events : List Event) (answer : List Output) → IsGiven command → Effects s command events answer t →
     Sound s → Sound t

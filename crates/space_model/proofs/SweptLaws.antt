@@ -1,26 +1,16 @@
--- What a state is like after all its pages were swept, and after a whole collection.
-use Rattle.std.proofs.Common.{◌≡◌, ◌≢◌, ℕ, zero, suc, ◌+◌, ◌||◌, cond, true, List, [], ◌∷◌, ◌++◌, Bool, length, nat_eq, refl, sym, ap, ◌∙◌, subst, arith, Option, None, Some, ⊎_elim}
-use Rattle.std.specs.Prelude.{is_some}
+-- What a state is like after all its pages were swept.
+use Rattle.std.proofs.Common.{◌≡◌, ℕ, zero, suc, ◌+◌, ◌||◌, cond, true, List, [], ◌∷◌, ◌++◌, length, nat_eq, refl, sym, ap, ◌∙◌, subst, arith, Option, None, ⊎_elim}
 use Rattle.std.specs.Set.{is_member}
 use Rattle.std.specs.Ordering.{nat_cmp}
-use Rattle.std.specs.FinMap.{FinMap, get}
+use Rattle.std.specs.FinMap.{FinMap}
 use Rattle.std.proofs.lemmas.Bool.{cases_Bool, cases_eq, or_left, eq-eqb, ne_eqb}
 use Rattle.std.proofs.lemmas.List.{length-append}
-use Rattle.space_model.specs.declared.event.Kind.{Kind}
-use Rattle.space_model.specs.declared.event.Kind.TheVariants.{Minor, Major, Full}
-use Rattle.space_model.specs.declared.phase.Phase.TheVariants.{Idle, Moving, Fixing}
-use Rattle.space_model.specs.Ages.{aged}
+use Rattle.space_model.specs.declared.phase.Phase.TheVariants.{Idle}
 use Rattle.space_model.specs.Sweeps.{sweep_phase, swept, Sweep1, Sweeps, SweepAll}
-use Rattle.space_model.specs.Markings.{took, Took}
-use Rattle.space_model.specs.Maps.{without}
 use Rattle.space_model.specs.Moments.{noted}
-use Rattle.space_model.specs.Pages.{pool_at, pool_pages, is_used, spared}
-use Rattle.space_model.specs.Sound.{Sound}
+use Rattle.space_model.specs.Pages.{pool_at, is_used, spared}
 use Rattle.space_model.specs.State.{State}
-use Rattle.space_model.specs.Verdicts.{IsVerdict}
-use Rattle.space_model.proofs.CollectionsKept.{Sound-took, Sound-sweeps}
-use Rattle.space_model.proofs.PageLaws.{member-pool_pages, pool_at-spared, pool_at-spared_page, length-spared}
-use Rattle.space_model.proofs.SweepKept.{no_corpse}
+use Rattle.space_model.proofs.PageLaws.{pool_at-spared, pool_at-spared_page, length-spared}
 
 -- after the sweep of these pages: one of them is spare where nothing stands on it, and what roots, fields and stack words stand for
 -- is as it was
@@ -106,58 +96,3 @@ Sweeps-place (suc pages) s t freed (now, later, mid, both, step, more) =
 
 pub SweepAll-swept : (s t : State) (freed : List ℕ) → SweepAll s freed t → IsSwept s.heap.unswept freed s t
 SweepAll-swept s t freed h = Sweeps-swept s.heap.unswept s t freed refl h
-
--- after a collection without a page that waits: what was taken is gone, and each page without an object is spare
-pub record IsCollected (s : State) (kind : Kind) (taken freed : List ℕ) (t : State) : Type 0 where
-  pub graph : t.graph ≡ s.graph
-  pub roots : t.roots ≡ s.roots
-  pub stack : t.stack ≡ s.stack
-  pub place : t.heap.place ≡ without s.heap.place taken
-  pub left : t.heap.left ≡ s.heap.left
-  pub limit : t.heap.limit ≡ s.heap.limit
-  pub none_waits : t.heap.unswept ≡ []
-  pub no_corpse : (name address : ℕ) → get t.heap.corpses name ≡ Some address → ⊥
-  pub pools : (q : ℕ) → pool_at t.heap.pages q ≡ cond (is_used (without s.heap.place taken) q) (pool_at s.heap.pages q) None
-  pub page_count : length t.heap.pages ≡ length s.heap.pages
-  pub outlived : t.collector.outlived ≡ aged (without s.heap.place taken) s.collector.outlived
-  pub phase : t.collector.phase ≡ Idle
-  pub total : t.counters.freed ≡ s.counters.freed + length freed
-
-bare : (pages : List (Option ℕ)) (used : Bool) (q : ℕ) →
-    cond (is_member nat_eq (pool_pages pages) q) (cond used (pool_at pages q) None) (pool_at pages q) ≡ cond used (pool_at pages q) None
-bare pages used q = let m = member-pool_pages pages q in none_there (pool_at pages q) m
-  where
-    none_there : (o : Option ℕ) → is_member nat_eq (pool_pages pages) q ≡ is_some o →
-        cond (is_member nat_eq (pool_pages pages) q) (cond used o None) o ≡ cond used o None
-    none_there None m = grind (arith, m, cases_Bool used)
-    none_there (Some pool) m = grind (arith, m, cases_Bool used)
-
-same_freed : (kind : Kind) (s : State) (taken : List ℕ) → (took s kind taken).counters.freed ≡ s.counters.freed
-same_freed Minor s taken = refl
-same_freed Major s taken = refl
-same_freed Full s taken = refl
-
-pub collected : (s m t : State) (kind : Kind) (taken freed : List ℕ) → s.collector.phase ≢ Moving → s.collector.phase ≢ Fixing → Sound s →
-    IsVerdict s kind taken → Took s kind taken m → SweepAll m freed t → IsCollected s kind taken freed t
-collected s m t kind taken freed moves fixes h v e sweep =
-    let place = without s.heap.place taken in
-    let u : State = noted (took s kind taken) in
-    let all : SweepAll u freed t = subst (λ x. SweepAll x freed t) e sweep in
-    let k = SweepAll-swept u t freed all in
-    let sound : Sound t = Sound-sweeps _ u t freed all (Sound-took s u kind taken moves fixes v refl h) in
-    let idle = k.phase refl in
-    record {
-      graph = k.graph;
-      roots = k.roots;
-      stack = k.stack;
-      place = k.place;
-      left = k.left;
-      limit = k.limit;
-      none_waits = k.none_waits;
-      no_corpse = no_corpse t.graph t.heap.place t.heap.corpses t.collector.phase t.heap.pages t.heap.unswept sound.corpses sound.sweep (λ p. cc);
-      pools = λ q. k.pools q ∙ bare s.heap.pages (is_used (without s.heap.place taken) q) q;
-      page_count = k.page_count;
-      outlived = k.outlived;
-      phase = idle;
-      total = k.total ∙ ap (λ n. n + length freed) (same_freed kind s taken);
-    }

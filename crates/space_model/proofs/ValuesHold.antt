@@ -102,6 +102,15 @@ module _ (s : State) (P : Value → Type 0) (h : IsKeptFact s P) where
   pub read_holds : (operand : Operand) (index : ℕ) (value : Value) → field_value s.graph (operand_value s operand) index ≡ Ok value → P value
   read_holds operand index value e = through_operand operand (operand_value s operand) index value refl e
 
+  through_named : (operand : Operand) (found : Result Value Refusal) (name : ℕ) → operand_value s operand ≡ found → and_then found object_in ≡ Ok name →
+      P (Name name)
+  through_named operand (Err why) name o e = absurd (ok_err name why e)
+  through_named operand (Ok object) name o e = object_holds object name (operand_holds operand object o) e
+
+  -- of the object that `unprotect` is given
+  pub named_holds : (operand : Operand) (name : ℕ) → and_then (operand_value s operand) object_in ≡ Ok name → P (Name name)
+  named_holds operand name e = through_named operand (operand_value s operand) name refl e
+
   abbrev pub HoldsOfWrite : ℕ × Value → Type 0
   HoldsOfWrite written = P (Name written.0) × P written.1
 

@@ -72,7 +72,7 @@ item_at (item ∷ graph) zero h = (h.0, h.1)
 item_at (item ∷ graph) (suc index) h = item_at graph index h.2
 
 -- an item has few fields, and small integers in them
-item_sound : (graph : List Item) (name : ℕ) → AreSoundItems graph → (length (item_of graph name).values ≤ most_fields) × AreSmall (item_of graph name).values
+pub item_sound : (graph : List Item) (name : ℕ) → AreSoundItems graph → (length (item_of graph name).values ≤ most_fields) × AreSmall (item_of graph name).values
 item_sound graph zero h = (lit≤ tt, tt)
 item_sound graph (suc index) h = item_at graph index h
 
@@ -114,14 +114,19 @@ AreSoundItems-set [] index item few small h = tt
 AreSoundItems-set (x ∷ graph) zero item few small h = (few, small, h.2)
 AreSoundItems-set (x ∷ graph) (suc index) item few small h = (h.0, h.1, AreSoundItems-set graph index item few small h.2)
 
+-- another item for a name
+pub AreSoundItems-with_item : (graph : List Item) (name : ℕ) (item : Item) → length item.values ≤ most_fields → AreSmall item.values → AreSoundItems graph →
+    AreSoundItems (with_item graph name item)
+AreSoundItems-with_item graph zero item few small h = h
+AreSoundItems-with_item graph (suc before) item few small h = AreSoundItems-set graph before item few small h
+
 -- a field written
 pub AreSoundItems-field_written : (graph : List Item) (name index : ℕ) (value : Value) → IsSmall value → AreSoundItems graph →
     AreSoundItems (with_item graph name (item_written (item_of graph name) index value))
-AreSoundItems-field_written graph zero index value small h = h
-AreSoundItems-field_written graph (suc before) index value small h =
-    let item = item_of graph (suc before) in
-    let sound = item_sound graph (suc before) h in
-    AreSoundItems-set graph before (item_written item index value)
+AreSoundItems-field_written graph name index value small h =
+    let item = item_of graph name in
+    let sound = item_sound graph name h in
+    AreSoundItems-with_item graph name (item_written item index value)
     (let e = length-set item.values index value in let f = sound.0 in omega arith)
     (AreSmall-set item.values index value small sound.1)
     h

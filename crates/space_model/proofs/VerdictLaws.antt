@@ -7,7 +7,7 @@ use Rattle.std.specs.FinMap.{get}
 use Rattle.std.proofs.lemmas.Bool.{cases_Bool, false_from_ne_true}
 use Rattle.std.proofs.lemmas.Map.Made.{length-le_from_is_member}
 use Rattle.space_model.specs.declared.event.Kind.{Kind}
-use Rattle.space_model.specs.declared.event.Kind.TheVariants.{Full}
+use Rattle.space_model.specs.declared.event.Kind.TheVariants.{Minor, Full}
 use Rattle.space_model.specs.Markings.{mark_started, StartMark, took, Took}
 use Rattle.space_model.specs.Counts.{CountIs}
 use Rattle.space_model.specs.Graph.{IsChild}
@@ -68,6 +68,15 @@ full_verdict s taken are rising = record {
 -- the start of a marking changes nothing of it
 pub verdict_marked : (s : State) (taken : List ℕ) → IsVerdict s Full taken → IsVerdict (mark_started s) Full taken
 verdict_marked s taken v = record { present = v.present; rising = v.rising; unreached = v.unreached; closed = v.closed; by_kind = v.by_kind }
+
+pub minor_verdict_marked : (s : State) (taken : List ℕ) → IsVerdict s Minor taken → IsVerdict (mark_started s) Minor taken
+minor_verdict_marked s taken v = record {
+  present = v.present;
+  rising = v.rising;
+  unreached = v.unreached;
+  closed = v.closed;
+  by_kind = record { old_stay = v.by_kind.old_stay; led_to = v.by_kind.led_to };
+}
 
 module _ (s : State) (kind : Kind) (taken : List ℕ) (v : IsVerdict s kind taken) where
   reached_before : (n : ℕ) → Reach (took s kind taken) n → Reach s n

@@ -1,10 +1,9 @@
 -- What a collection does to a state: it keeps it sound, and leaves what was reached; and that there is one.
-use Rattle.std.proofs.Common.{◌≡◌, ◌≢◌, ◌&&◌, not, nat_eq, ℕ, true, false, Some, List, [], ◌∷◌, ◌++◌, length, refl, sym, ap, ◌∙◌, subst}
+use Rattle.std.proofs.Common.{◌≡◌, ◌≢◌, not, nat_eq, ℕ, true, false, List, [], ◌∷◌, ◌++◌, length, refl, sym, ap, ◌∙◌, subst}
 use Rattle.std.specs.Prelude.{is_some, ◌↔◌}
-use Rattle.std.specs.List.{filter}
 use Rattle.std.specs.Set.{is_member}
-use Rattle.std.specs.FinMap.{get, keys}
-use Rattle.std.proofs.lemmas.Bool.{and_parts, and_from, not-true, false≢true, false_from_ne_true}
+use Rattle.std.specs.FinMap.{get}
+use Rattle.std.proofs.lemmas.Bool.{not-true, false≢true, false_from_ne_true}
 use Rattle.std.proofs.lemmas.List.{append-nil}
 use Rattle.space_model.specs.declared.event.Event.{Event}
 use Rattle.space_model.specs.declared.event.Kind.{Kind}
@@ -13,10 +12,9 @@ use Rattle.space_model.specs.declared.phase.Phase.{Phase}
 use Rattle.space_model.specs.declared.phase.Phase.TheVariants.{Idle, Marking, Sweeping, Moving, Fixing}
 use Rattle.space_model.specs.declared.reply.Reply.{Reply}
 use Rattle.space_model.specs.declared.reply.Reply.TheVariants.{Scanned}
-use Rattle.space_model.specs.Collections.{IsCollection, CollectsAll, Collects}
+use Rattle.space_model.specs.Collections.{AreScans, IsCollection, CollectsAll, Collects}
 use Rattle.space_model.specs.Completions.{CompletesIn, Completes}
 use Rattle.space_model.specs.Counts.{CountIs}
-use Rattle.space_model.specs.Maps.{address_in}
 use Rattle.space_model.specs.Markings.{mark_started, StartMark, took}
 use Rattle.space_model.specs.Moments.{noted}
 use Rattle.space_model.specs.Reach.{Reach}
@@ -28,12 +26,10 @@ use Rattle.space_model.specs.Verdicts.{IsVerdict, verdict_events}
 use Rattle.space_model.proofs.CollectionsKept.{Sound-start, Sound-mark_started, Sound-took, Sound-swept_all}
 use Rattle.space_model.proofs.CorpseNames.{freed_pages, swept_pages, SweepAll-there}
 use Rattle.space_model.proofs.Leaving.{Leaves, leaves_same, leaves_marked, leaves_swept, leaves_taken, leaves_then, leaves_reach}
-use Rattle.space_model.proofs.SweptLaws.{IsCollected, collected, SweepAll-swept}
-use Rattle.space_model.proofs.MapLaws.{present_at}
-use Rattle.space_model.proofs.Members.{member_filter}
-use Rattle.space_model.proofs.ReachedLaws.{member-keys, member-reached_names}
-use Rattle.space_model.proofs.RisingNames.{rising_names, IsRising-rising_names, member-rising_names}
-use Rattle.space_model.proofs.VerdictLaws.{reach_present, verdict_marked, seen_count, scans_are_reached, full_leaves_reached, full_verdict, CountIs-reached}
+use Rattle.space_model.proofs.SweptLaws.{SweepAll-swept}
+use Rattle.space_model.proofs.PassingNames.{passing_names, IsRising-passing_names, member-passing_names}
+use Rattle.space_model.proofs.ReachedLaws.{member-reached_names}
+use Rattle.space_model.proofs.VerdictLaws.{reach_present, verdict_marked, scans_are_reached, full_leaves_reached, full_verdict}
 
 -- a completion
 
@@ -156,30 +152,31 @@ collects_idle s t kind events scans c =
 pub collects_none_waits : (s t : State) (kind : Kind) (events : List Event) (scans : ℕ) → CollectsAll s kind events scans t → t.heap.unswept ≡ []
 collects_none_waits s t kind events scans c = (SweepAll-swept c.unswept t c.freed c.sweeps).none_waits
 
--- the state after a whole collection, from one in which nothing is under way, by the names that are taken
-abbrev pub collected_state : State → List ℕ → State
-collected_state s taken =
-    let m : State = noted (took (mark_started s) Full taken) in
+-- the state after a collection, from one in which nothing is under way, by its kind and the names that are taken
+abbrev pub collected_state : State → Kind → List ℕ → State
+collected_state s kind taken =
+    let m : State = noted (took (mark_started s) kind taken) in
     swept_pages m.heap.unswept m
 
-abbrev pub freed_names : State → List ℕ → List ℕ
-freed_names s taken =
-    let m : State = noted (took (mark_started s) Full taken) in
+abbrev freed_names : State → Kind → List ℕ → List ℕ
+freed_names s kind taken =
+    let m : State = noted (took (mark_started s) kind taken) in
     freed_pages m.heap.unswept m
 
-module _ (s : State) (taken : List ℕ) (h : Sound s) (moves : s.collector.phase ≢ Moving) (fixes : s.collector.phase ≢ Fixing) (v : IsVerdict s Full taken) where
-  taken_sound : Sound (noted (took (mark_started s) Full taken))
-  taken_sound = Sound-took (mark_started s) (noted (took (mark_started s) Full taken)) Full taken moves fixes (verdict_marked s taken v) refl
-      (Sound-mark_started s h)
+module _ (s : State) (kind : Kind) (taken : List ℕ) (h : Sound s) (moves : s.collector.phase ≢ Moving) (fixes : s.collector.phase ≢ Fixing)
+    (v : IsVerdict (mark_started s) kind taken) where
+  taken_sound : Sound (noted (took (mark_started s) kind taken))
+  taken_sound = Sound-took (mark_started s) (noted (took (mark_started s) kind taken)) kind taken moves fixes v refl (Sound-mark_started s h)
 
-  all_swept : SweepAll (noted (took (mark_started s) Full taken)) (freed_names s taken) (collected_state s taken)
-  all_swept = SweepAll-there (noted (took (mark_started s) Full taken)) taken_sound
+  all_swept : SweepAll (noted (took (mark_started s) kind taken)) (freed_names s kind taken) (collected_state s kind taken)
+  all_swept = SweepAll-there (noted (took (mark_started s) kind taken)) taken_sound
 
-  -- a completion, a verdict, and the number of names that are reached make a whole collection
-  pub collects_after : (before : State) (completion : List Event) (scans : ℕ) → Completes before completion s → CountIs (Reach s) scans →
-      CollectsAll before Full (completion ++ verdict_events Full taken) scans (collected_state s taken)
-  collects_after before completion scans completes count = record {
-    unswept = noted (took (mark_started s) Full taken);
+  -- a completion, a verdict, and a number of scans make a collection
+  pub collects_after : (before : State) (completion : List Event) (scans : ℕ) → Completes before completion s →
+      AreScans kind s (mark_started s) taken scans →
+      CollectsAll before kind (completion ++ verdict_events kind taken) scans (collected_state s kind taken)
+  collects_after before completion scans completes are = record {
+    unswept = noted (took (mark_started s) kind taken);
     collects = record {
       idle = s;
       completion = completion;
@@ -187,63 +184,40 @@ module _ (s : State) (taken : List ℕ) (h : Sound s) (moves : s.collector.phase
       marked = mark_started s;
       starts = refl;
       taken = taken;
-      told = verdict_events Full taken;
-      verdict = record { verdict = verdict_marked s taken v; takes = refl; events_are = refl };
-      scans_are = sym (seen_count s (mark_started s) scans refl count);
+      told = verdict_events kind taken;
+      verdict = record { verdict = v; takes = refl; events_are = refl };
+      scans_are = are;
       events_are = refl;
     };
-    freed = freed_names s taken;
+    freed = freed_names s kind taken;
     sweeps = all_swept;
   }
 
-  -- the same, where nothing was under way
-  pub collects_from : (scans : ℕ) → s.collector.phase ≡ Idle → CountIs (Reach s) scans →
-      CollectsAll s Full (verdict_events Full taken) scans (collected_state s taken)
-  collects_from scans idle count = collects_after s [] scans (subst (λ (phase : Phase). CompletesIn phase s [] s) (sym idle) (refl, refl)) count
-
-  -- and this is what the state is like after it
-  pub collected_after : IsCollected (mark_started s) Full taken (freed_names s taken) (collected_state s taken)
-  collected_after = collected (mark_started s) (noted (took (mark_started s) Full taken)) (collected_state s taken) Full taken
-      (freed_names s taken) moves fixes (Sound-mark_started s h) (verdict_marked s taken v) refl all_swept
-
-abbrev left_over : State → List ℕ
-left_over s = filter (λ name. not (is_member nat_eq (reached_names s) name)) (keys s.heap.place)
-
 -- the present names that aren't reached, in ascending order of place
 pub unreached_names : State → List ℕ
-unreached_names s = rising_names s.heap.place (left_over s)
+unreached_names s = passing_names s (λ name. not (is_member nat_eq (reached_names s) name))
 
 -- in a sound state they are what a full verdict takes
 unreached_verdict : (s : State) → Sound s → IsVerdict s Full (unreached_names s)
 unfolding unreached_names
 unreached_verdict s h =
-    let filtered : (n : ℕ) → is_member nat_eq (left_over s) n ≡ (is_member nat_eq (keys s.heap.place) n && not (is_member nat_eq (reached_names s) n)) =
-    λ n. member_filter (λ name. not (is_member nat_eq (reached_names s) name)) (keys s.heap.place) n in
-    let there : (n : ℕ) → is_member nat_eq (left_over s) n ≡ true → is_present s n ≡ true =
-    λ n m. sym (member-keys s.heap.place n) ∙ (and_parts _ _ (sym (filtered n) ∙ m)).0 in
-    let one : (x y : ℕ) → is_member nat_eq (left_over s) x ≡ true → is_member nat_eq (left_over s) y ≡ true →
-    address_in s.heap.place x ≡ address_in s.heap.place y → x ≡ y =
-    λ x y m k e. h.layout.placed.once x y (address_in s.heap.place x) (present_at s.heap.place x (there x m))
-    (present_at s.heap.place y (there y k) ∙ ap Some (sym e)) in
-    let same = member-rising_names s.heap.place (left_over s) one in
+    let are = member-passing_names s h.layout.placed (λ name. not (is_member nat_eq (reached_names s) name)) in
     full_verdict s (unreached_names s)
     (λ n. (
-      (λ m. (
-        there n (sym (same n) ∙ m),
-        λ r. let out : is_member nat_eq (reached_names s) n ≡ false =
-            not-true (is_member nat_eq (reached_names s) n)
-            (and_parts (is_member nat_eq (keys s.heap.place) n) (not (is_member nat_eq (reached_names s) n)) (sym (filtered n) ∙ sym (same n) ∙ m)).1 in
-            let q = (member-reached_names s n).1 r in false≢true (sym out ∙ q),
-      )),
-      (λ (p, u). same n ∙ filtered n ∙ and_from _ _ (member-keys s.heap.place n ∙ p) (ap not (false_from_ne_true _ (λ q. u ((member-reached_names s n).0 q))))),
+      (λ m.
+          let both = (are n).0 m in
+          let out : is_member nat_eq (reached_names s) n ≡ false = not-true (is_member nat_eq (reached_names s) n) both.1 in
+          (both.0, λ r. false≢true (sym out ∙ (member-reached_names s n).1 r))),
+      (λ (p, u). (are n).1 (p, ap not (false_from_ne_true _ (λ q. u ((member-reached_names s n).0 q))))),
     ))
-    (IsRising-rising_names s.heap.place (left_over s))
+    (IsRising-passing_names s (λ name. not (is_member nat_eq (reached_names s) name)))
 
 -- so where what is under way can be completed there is a whole collection
 pub collects_there : (s idle : State) (completion : List Event) → Completes s completion idle → Sound s →
-    CollectsAll s Full (completion ++ verdict_events Full (unreached_names idle)) (length (reached_names idle)) (collected_state idle (unreached_names idle))
+    CollectsAll s Full (completion ++ verdict_events Full (unreached_names idle)) (length (reached_names idle))
+    (collected_state idle Full (unreached_names idle))
 collects_there s idle completion completes h =
     let sound : Sound idle = Sound-completed s idle completion completes h in
     let rests : idle.collector.phase ≡ Idle = completed_idle s idle completion completes h in
-    collects_after idle (unreached_names idle) sound (λ e. cc) (λ e. cc) (unreached_verdict idle sound) s completion (length (reached_names idle)) completes
-    (CountIs-reached idle)
+    collects_after idle Full (unreached_names idle) sound (λ e. cc) (λ e. cc) (verdict_marked idle (unreached_names idle) (unreached_verdict idle sound)) s
+    completion (length (reached_names idle)) completes refl

@@ -5,7 +5,7 @@ use Rattle.space_model.specs.declared.command.Input.{Input}
 use Rattle.space_model.specs.declared.command.Input.TheVariants.{From, Nil, Small}
 use Rattle.space_model.specs.declared.command.Operand.{Operand}
 use Rattle.space_model.specs.declared.command.Operand.TheVariants.{Root, Word}
-use Rattle.space_model.specs.Grammar.{FormWord, Exactly, IdentWord, Decimal, Base16, OperandWord, InputWord, form_of, HasLine}
+use Rattle.space_model.specs.Grammar.{FormWord, Exactly, IdentWord, Decimal, Base16, OperandWord, InputWord, form_of}
 use Rattle.space_model.specs.Idents.{IsIdent}
 use Rattle.space_model.specs.Spelling.{Piece, Say, Number, Hex, Called, text_of_pieces}
 use Rattle.space_model.specs.Words.{IsSmallInteger}
@@ -68,7 +68,3 @@ IsWritableWord (InputWord value) = IsWritableInput value
 abbrev pub AreWritable : List FormWord → Type 0
 AreWritable [] = Unit {0}
 AreWritable (word ∷ words) = IsWritableWord word × AreWritable words
-
--- some line is the command
-abbrev pub IsWritable : Command → Type 0
-IsWritable command = AreWritable (form_of command) × HasLine command

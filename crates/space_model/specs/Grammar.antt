@@ -107,14 +107,9 @@ AreFormWords texts [] = texts ≡ []
 AreFormWords texts (word ∷ words) =
     (text : List ℕ) × (others : List (List ℕ)) × (texts ≡ text ∷ others) × IsFormWord text word × AreFormWords others words
 
--- the command has a line: so far `new` makes objects that the write barrier protects, and whose children may be moved
-abbrev pub HasLine : Command → Type 0
-HasLine (New root fields guard style) = (guard ≡ Protected) × (style ≡ Movable)
-HasLine _ = Unit {0}
-
 -- the words are a command
 abbrev pub IsCommand : List (List ℕ) → Command → Type 0
-IsCommand words command = AreFormWords words (form_of command) × HasLine command
+IsCommand words command = AreFormWords words (form_of command)
 
 -- a line that is no command and has no answer: it is empty, or begins with `;`
 abbrev pub IsBlank : List ℕ → Type 0

@@ -8,7 +8,7 @@ use Rattle.space_model.specs.declared.command.Input.{Input}
 use Rattle.space_model.specs.declared.command.Operand.TheVariants.{Word}
 use Rattle.space_model.specs.declared.event.Event.{Event}
 use Rattle.space_model.specs.declared.event.Kind.{Kind}
-use Rattle.space_model.specs.declared.event.Kind.TheVariants.{Full}
+use Rattle.space_model.specs.declared.event.Kind.TheVariants.{Minor, Full}
 use Rattle.space_model.specs.declared.object.Guard.{Guard}
 use Rattle.space_model.specs.declared.object.Style.{Style}
 use Rattle.space_model.specs.declared.phase.Phase.TheVariants.{Moving, Fixing}
@@ -178,6 +178,12 @@ abbrev pub GcIsThere : Type 0
 GcIsThere =
     (s idle : State) (completion : List Event) → Completes s completion idle → Sound s →
     (events : List Event) × (scans : ℕ) × (t : State) × Collects s Full events (Scanned scans) t
+
+-- and it has a `minor`
+abbrev pub MinorIsThere : Type 0
+MinorIsThere =
+    (s idle : State) (completion : List Event) → Completes s completion idle → Sound s →
+    (events : List Event) × (scans : ℕ) × (t : State) × Collects s Minor events (Scanned scans) t
 
 -- where `new` answers `full` in a sound state, the heap is really full for the pool of the object
 abbrev pub FullIsFullAt : Type 0

@@ -11,6 +11,7 @@ pub mod Reach
 pub mod Reached
 pub mod Ages
 pub mod Moments
+pub mod Kept
 pub mod Pages
 pub mod Maps
 pub mod Places

@@ -4,6 +4,7 @@ use Rattle.space_model.specs.declared.event.Event.{Event}
 use Rattle.space_model.specs.declared.event.Kind.{Kind}
 use Rattle.space_model.specs.declared.event.Kind.TheVariants.{Minor}
 use Rattle.space_model.specs.Ages.{aged}
+use Rattle.space_model.specs.Kept.{kept_after_verdict, vague_after_verdict}
 use Rattle.space_model.specs.Maps.{without, carried_over}
 use Rattle.space_model.specs.Moments.{noted, mixed_names}
 use Rattle.space_model.specs.Pages.{pool_pages}
@@ -25,7 +26,8 @@ abbrev pub counted : Kind → Counters → Counters
 counted Minor counters = record counters { minor_verdicts = counters.minor_verdicts + 1 }
 counted _ counters = record counters { other_verdicts = counters.other_verdicts + 1 }
 
--- a verdict was carried out: what it takes are corpses, and every page with a pool waits for a sweep
+-- a verdict was carried out: what it takes are corpses, each name that it left outlived one verdict more, and every page with a pool waits
+-- for a sweep
 abbrev pub took : State → Kind → List ℕ → State
 took s kind taken = record s {
   heap = record s.heap {
@@ -36,6 +38,8 @@ took s kind taken = record s {
   collector = record s.collector {
     phase = sweep_phase (pool_pages s.heap.pages);
     outlived = aged (without s.heap.place taken) s.collector.outlived;
+    kept = kept_after_verdict kind s.graph (without s.heap.place taken) (aged (without s.heap.place taken) s.collector.outlived) s.collector.kept;
+    vague = vague_after_verdict kind s.collector.vague;
   };
   counters = counted kind s.counters;
 }

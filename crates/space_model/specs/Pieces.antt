@@ -1,12 +1,14 @@
--- The state after a piece of work: an object allocated, a root or a field written, a root taken away, another stack. What is reached is
--- noted after each.
+-- The state after a piece of work: an object allocated, a root or a field written, a root taken away, another stack, an object that the
+-- write barrier protects no more. What is reached is noted after each.
 use Rattle.std.specs.Prelude.{◌≡◌, ℕ, ◌+◌, List, [], ◌∷◌, ◌++◌, length, replicate, slice_set}
 use Rattle.std.specs.FinMap.{insert}
 use Rattle.space_model.specs.declared.object.Guard.{Guard}
+use Rattle.space_model.specs.declared.object.Guard.TheVariants.{Unprotected}
 use Rattle.space_model.specs.declared.object.Style.{Style}
 use Rattle.space_model.specs.declared.value.Value.{Value}
 use Rattle.space_model.specs.declared.value.Value.TheVariants.{Nil, Name}
 use Rattle.space_model.specs.Graph.{Item, item_of, with_item}
+use Rattle.space_model.specs.Kept.{kept_with_unprotected}
 use Rattle.space_model.specs.Layout.{page_of, pool_for}
 use Rattle.space_model.specs.Moments.{noted}
 use Rattle.space_model.specs.Pages.{with_pool}
@@ -72,3 +74,18 @@ field_written s name index value = record s {
 -- t is the state after the field holds the value, with what is reached noted
 abbrev pub FieldWritten : State → ℕ → ℕ → Value → State → Type 0
 FieldWritten s name index value t = t ≡ noted (field_written s name index value)
+
+-- the item after the write barrier protects it no more
+abbrev pub item_unprotected : Item → Item
+item_unprotected item = record item { guard = Unprotected }
+
+-- the write barrier protects the name no more, so it isn't old any more; it may be kept
+abbrev pub unprotected : State → ℕ → State
+unprotected s name = record s {
+  graph = with_item s.graph name (item_unprotected (item_of s.graph name));
+  collector = record s.collector { kept = kept_with_unprotected s.graph s.collector.outlived name s.collector.kept };
+}
+
+-- t is the state after the write barrier protects the name no more, with what is reached noted
+abbrev pub MadeUnprotected : State → ℕ → State → Type 0
+MadeUnprotected s name t = t ≡ noted (unprotected s name)

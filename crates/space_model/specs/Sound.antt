@@ -9,6 +9,7 @@ use Rattle.space_model.specs.declared.phase.Phase.{Phase}
 use Rattle.space_model.specs.declared.phase.Phase.TheVariants.{Sweeping, Moving, Fixing}
 use Rattle.space_model.specs.declared.value.Value.{Value}
 use Rattle.space_model.specs.declared.value.Value.TheVariants.{Nil, Small, Name}
+use Rattle.space_model.specs.Ages.{is_protected}
 use Rattle.space_model.specs.Graph.{Item, item_of, IsChild}
 use Rattle.space_model.specs.Idents.{IsIdent}
 use Rattle.space_model.specs.Layout.{most_fields, page_of}
@@ -85,6 +86,11 @@ pub record SoundNames (graph : List Item) (roots : List Root) (place : FinMap na
       is_some (get place name) ≡ true
   pub roots_present : (name : ℕ) → is_member nat_eq (root_names roots) name ≡ true → is_some (get place name) ≡ true
 
+-- kept names are present and unprotected
+abbrev pub SoundKept : List Item → FinMap nat_cmp ℕ → List ℕ → Type 0
+SoundKept graph place kept =
+    (name : ℕ) → is_member nat_eq kept name ≡ true → (is_some (get place name) ≡ true) × (is_protected graph name ≡ false)
+
 -- the reached names are in `seen`, each once, and the names with a child that isn't old are in `mixed`
 pub record SoundMoments (s : State) : Type 0 where
   pub seen : (name : ℕ) → Reach s name → is_member nat_eq s.history.seen name ≡ true
@@ -123,6 +129,7 @@ pub record Sound (s : State) : Type 0 where
   pub left : SoundLeft s.graph s.heap.place s.heap.corpses s.heap.left s.heap.pages
   pub stale : SoundStale s.graph s.heap.place s.heap.left s.collector.stale s.collector.cursor
   pub names : SoundNames s.graph s.roots s.heap.place
+  pub kept : SoundKept s.graph s.heap.place s.collector.kept
   pub items : AreSoundItems s.graph
   pub roots : AreSoundRoots s.roots
   pub outlived : length s.collector.outlived ≡ length s.graph

@@ -6,7 +6,7 @@ use Rattle.space_model.specs.declared.event.Event.TheVariants.{Gone, Verdict}
 use Rattle.space_model.specs.declared.event.Kind.{Kind}
 use Rattle.space_model.specs.declared.event.Kind.TheVariants.{Minor, Major, Full as FullKind}
 use Rattle.space_model.specs.declared.reply.Refusal.{Refusal}
-use Rattle.space_model.specs.declared.reply.Refusal.TheVariants.{TooLarge, NoRoot, NoWord, NotObject, NoField}
+use Rattle.space_model.specs.declared.reply.Refusal.TheVariants.{TooLarge, NoRoot, NoWord, NotObject, NoField, Protected}
 use Rattle.space_model.specs.declared.reply.Reply.{Reply}
 use Rattle.space_model.specs.declared.reply.Reply.TheVariants.{Made, Full, NoMemory, Done, Pushed, Read, Truth, Scanned, Refused}
 use Rattle.space_model.specs.declared.value.Value.{Value}
@@ -38,6 +38,7 @@ refusal_text NoRoot = codes "error no root"
 refusal_text NoWord = codes "error no word"
 refusal_text NotObject = codes "error not an object"
 refusal_text NoField = codes "error no field"
+refusal_text Protected = codes "error protected"
 
 -- `true` or `false`
 abbrev pub truth_text : Bool → List ℕ

@@ -4,7 +4,7 @@ ghost use Rattle.space_model.specs.Laws.{OpeningIsSound, LawfulIsSound, LawfulAl
 ghost use Rattle.space_model.specs.Laws.{StartMarkIsSound, TookIsSound, Sweep1IsSound, SweepsAreSound, SweepAllEnds, CompletesIsSound};
 ghost use Rattle.space_model.specs.Laws.{SeenAreReached, VerdictsReachNoMore, ReachedOutliveVerdicts, FullLeavesReached};
 ghost use Rattle.space_model.specs.Laws.{SweepsKeepPlaces, SweepsKeepReach, CompletesReachNoMore, ReachedOutliveCompletions};
-ghost use Rattle.space_model.specs.Laws.{CollectionScansReached, FullCollectionLeavesReached, CollectionsKeepGraph, GcIsThere};
+ghost use Rattle.space_model.specs.Laws.{CollectionScansReached, FullCollectionLeavesReached, CollectionsKeepGraph, GcIsThere, MinorIsThere};
 ghost use Rattle.space_model.specs.Laws.{FullIsFullAt, FullLeavesReachedBefore, NewMakesNone};
 ghost use Rattle.space_model.specs.Laws.{ReachedArePresent, VisibleIsReached, ReachedIsVisible, ReachedStay, PlacesStay, LimitStays, WordsKeepValues};
 ghost use Rattle.space_model.specs.Laws.{GoneAreTold, GoneAreToldInOrder, GoneAreToldOnce, GoneStayGone, PushedIsTop, NamedIsTold, TextsDiffer};
@@ -50,8 +50,8 @@ pub fn verdicts_keep_what_is_reached()
     ensures exact { FullLeavesReached }
 {}
 
-/// Where what is under way can be completed there is a whole collection. It does as many scans as names are reached after the
-/// completion, leaves nothing else, and changes no field, no stack word, and no root that a line can name. A completion takes
+/// Where what is under way can be completed there is a minor collection, and a whole one. That does as many scans as names are reached
+/// after the completion, leaves nothing else, and changes no field, no stack word, and no root that a line can name. A completion takes
 /// nothing that is reached, and makes nothing more so where no objects are being moved. Sweeps change nothing of it.
 pub fn collections_leave_what_is_reached()
     ensures places { SweepsKeepPlaces }
@@ -62,6 +62,7 @@ pub fn collections_leave_what_is_reached()
     ensures leaves { FullCollectionLeavesReached }
     ensures same { CollectionsKeepGraph }
     ensures possible { GcIsThere }
+    ensures minor_possible { MinorIsThere }
 {}
 
 /// `new` answers `full` only where the heap is really full for the object's pool. Where it makes no object, whatever it answers, it

@@ -14,6 +14,8 @@ pub enum Refusal {
     NotObject,
     /// The object has no such field.
     NoField,
+    /// The write barrier protects the object.
+    Protected,
 }
 
 /// The last line of a command.

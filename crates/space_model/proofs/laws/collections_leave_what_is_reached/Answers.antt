@@ -1,9 +1,10 @@
 use Rattle.std.proofs.Common.{◌++◌, length, ap}
-use Rattle.space_model.specs.declared.event.Kind.TheVariants.{Full}
+use Rattle.space_model.specs.declared.event.Kind.TheVariants.{Minor, Full}
 use Rattle.space_model.specs.Reached.{reached_names}
 use Rattle.space_model.specs.Roots.{root_value}
 use Rattle.space_model.specs.Verdicts.{verdict_events}
 use Rattle.space_model.proofs.Leaving.{leaves_reach, leaves_swept}
+use Rattle.space_model.proofs.MinorLaws.{minor_taken, young_names, minor_there}
 use Rattle.space_model.proofs.SweptLaws.{Sweeps-place}
 use Rattle.space_model.proofs.WholeLaws.{completed_reach, completed_present, collection_scans, collection_leaves, leaves_collection, unreached_names, collected_state, collects_there}
 use Rattle.space_model.proofs.laws.collections_leave_what_is_reached.Goals as goal
@@ -35,6 +36,14 @@ pub returns-clause-possible : goal.returns-clause-possible
 returns-clause-possible c = λ s idle completion completes h. (
   completion ++ verdict_events Full (unreached_names idle),
   length (reached_names idle),
-  collected_state idle (unreached_names idle),
+  collected_state idle Full (unreached_names idle),
   collects_there s idle completion completes h,
+)
+
+pub returns-clause-minor_possible : goal.returns-clause-minor_possible
+returns-clause-minor_possible c = λ s idle completion completes h. (
+  completion ++ verdict_events Minor (minor_taken idle),
+  length (young_names idle),
+  collected_state idle Minor (minor_taken idle),
+  minor_there s idle completion completes h,
 )
