@@ -11,12 +11,15 @@ use Rattle.space_model.specs.declared.command.Input.{Input}
 use Rattle.space_model.specs.declared.command.Input.TheVariants.{From, Nil, Small}
 use Rattle.space_model.specs.declared.command.Operand.{Operand}
 use Rattle.space_model.specs.declared.command.Operand.TheVariants.{Root, Word}
-use Rattle.space_model.specs.declared.object.Guard.TheVariants.{Protected}
-use Rattle.space_model.specs.declared.object.Style.TheVariants.{Movable}
-use Rattle.space_model.specs.Grammar.{IsHex, IsOperand, IsInput, IsCommand, IsBlank, IsReading, AreCommands, Commands, words_of, without_cr}
+use Rattle.space_model.specs.declared.object.Guard.{Guard}
+use Rattle.space_model.specs.declared.object.Guard.TheVariants.{Protected, Unprotected}
+use Rattle.space_model.specs.declared.object.Style.{Style}
+use Rattle.space_model.specs.declared.object.Style.TheVariants.{Movable, Keeping}
+use Rattle.space_model.specs.Given.{IsGiven}
+use Rattle.space_model.specs.Grammar.{IsHex, IsOperand, IsInput, IsCommand, IsBlank, IsReading, AreCommands, Commands, words_of, without_cr, guard_word, style_word}
 use Rattle.space_model.specs.Idents.{IsIdent, is_first_byte}
 use Rattle.space_model.specs.Lines.{lines_of}
-use Rattle.space_model.specs.CommandTexts.{command_text, IsWritable}
+use Rattle.space_model.specs.CommandTexts.{command_text}
 use Rattle.space_trace.proofs.SpellingLemmas.{spelling_is_read}
 
 -- Each function below finds what a word is, or what words are, and anything where they are nothing.
@@ -27,8 +30,14 @@ operand_of word = if slice_index word 0 == 64 then Word (digits_value 10 (drop 1
 abbrev input_of : List ℕ → Input
 input_of word = if bytes_eq word (codes "nil") then Nil else if slice_index word 0 == 61 then Small (digits_value 10 (drop 1 word)) else From (operand_of word)
 
+abbrev guard_of : List ℕ → Guard
+guard_of word = if bytes_eq word (codes "P") then Protected else Unprotected
+
+abbrev style_of : List ℕ → Style
+style_of word = if bytes_eq word (codes "M") then Movable else Keeping
+
 abbrev new_of : List (List ℕ) → Option Command
-new_of (root ∷ fields ∷ rest) = Some (New root (digits_value 10 fields) Protected Movable)
+new_of (root ∷ fields ∷ guard ∷ style ∷ rest) = Some (New root (digits_value 10 fields) (guard_of guard) (style_of style))
 new_of _ = None
 
 abbrev set_of : List (List ℕ) → Option Command
@@ -106,20 +115,29 @@ input_is word (Small number) h = rw h.1 (ap Small (sym h.2.value))
 raw_is : (text : List ℕ) (word : ℕ) → IsHex text word → raw_of (text ∷ []) ≡ Some (Raw word)
 raw_is text word h = rw h.is (ap (λ (n : ℕ). Some (Raw n)) (sym h.value))
 
+guard_is : (guard : Guard) → guard_of (guard_word guard) ≡ guard
+guard_is Protected = refl
+guard_is Unprotected = refl
+
+style_is : (style : Style) → style_of (style_word style) ≡ style
+style_is Movable = refl
+style_is Keeping = refl
+
 -- the command that words are is the one that is found
 pub command_is : (words : List (List ℕ)) (command : Command) → IsCommand words command → command_of words ≡ Some command
-command_is words (New root fields guard style) ((_, _, e, f, (_, _, e1, f1, (_, _, e2, f2, _))), (p, m)) = rw (e, f, e1, e2, f1.0, f2.value, p, m) refl
-command_is words (Set root value) ((_, _, e, f, (_, _, e1, f1, (v, _, e2, f2, _))), _) = rw (e, f, e1, e2, f1.0, input_is v value f2) refl
-command_is words (DropRoot root) ((_, _, e, f, (_, _, e1, f1, _)), _) = rw (e, f, e1, f1.0) refl
-command_is words (Push value) ((_, _, e, f, (v, _, e1, f1, _)), _) = rw (e, f, e1, input_is v value f1) refl
-command_is words (Raw word) ((_, _, e, f, (w, _, e1, f1, _)), _) = rw (e, f, e1) (raw_is w word f1)
-command_is words Pop ((_, _, e, f, _), _) = rw (e, f) refl
-command_is words (Store object index value) ((_, _, e, f, (a, _, e1, f1, (_, _, e2, f2, (v, _, e3, f3, _)))), _) =
+command_is words (New root fields guard style) (_, _, e, f, (_, _, e1, f1, (_, _, e2, f2, (_, _, e3, f3, (_, _, e4, f4, _))))) =
+    rw (e, f, e1, e2, e3, e4, f1.0, f2.value, f3, f4, guard_is guard, style_is style) refl
+command_is words (Set root value) (_, _, e, f, (_, _, e1, f1, (v, _, e2, f2, _))) = rw (e, f, e1, e2, f1.0, input_is v value f2) refl
+command_is words (DropRoot root) (_, _, e, f, (_, _, e1, f1, _)) = rw (e, f, e1, f1.0) refl
+command_is words (Push value) (_, _, e, f, (v, _, e1, f1, _)) = rw (e, f, e1, input_is v value f1) refl
+command_is words (Raw word) (_, _, e, f, (w, _, e1, f1, _)) = rw (e, f, e1) (raw_is w word f1)
+command_is words Pop (_, _, e, f, _) = rw (e, f) refl
+command_is words (Store object index value) (_, _, e, f, (a, _, e1, f1, (_, _, e2, f2, (v, _, e3, f3, _)))) =
     rw (e, f, e1, e2, e3, operand_is a object f1, f2.value, input_is v value f3) refl
-command_is words (Load root object index) ((_, _, e, f, (_, _, e1, f1, (a, _, e2, f2, (_, _, e3, f3, _)))), _) =
+command_is words (Load root object index) (_, _, e, f, (_, _, e1, f1, (a, _, e2, f2, (_, _, e3, f3, _)))) =
     rw (e, f, e1, e2, e3, f1.0, operand_is a object f2, f3.value) refl
-command_is words (Same left right) ((_, _, e, f, (a, _, e1, f1, (b, _, e2, f2, _))), _) = rw (e, f, e1, e2, operand_is a left f1, operand_is b right f2) refl
-command_is words Gc ((_, _, e, f, _), _) = rw (e, f) refl
+command_is words (Same left right) (_, _, e, f, (a, _, e1, f1, (b, _, e2, f2, _))) = rw (e, f, e1, e2, operand_is a left f1, operand_is b right f2) refl
+command_is words Gc (_, _, e, f, _) = rw (e, f) refl
 
 -- a blank has no words of a command
 comment_is : (words : List (List ℕ)) → command_of (onto_first 59 words) ≡ None
@@ -148,7 +166,7 @@ commands_same bytes a b h k = lines_same (lines_of bytes) a b h k
 some_same : (a b : Command) → ◌≡◌ {A = Option Command} (Some a) (Some b) → a ≡ b
 some_same a b e = cc
 
-pub spellings_differ : (a b : Command) → IsWritable a → IsWritable b → command_text a ≡ command_text b → a ≡ b
+pub spellings_differ : (a b : Command) → IsGiven a → IsGiven b → command_text a ≡ command_text b → a ≡ b
 spellings_differ a b w v e =
     let first : IsReading (command_text b) (Some a) = subst (λ (line : List ℕ). IsReading line (Some a)) e (spelling_is_read a w) in
     some_same a b (readings_same (command_text b) (Some a) (Some b) first (spelling_is_read b v))
@@ -161,7 +179,7 @@ no_raw_word word none command h =
     is_hex n (subst (λ (c : Command). IsCommand (codes "raw" ∷ word ∷ []) c) (sym same) h)
   where
     is_hex : (n : ℕ) → IsCommand (codes "raw" ∷ word ∷ []) (Raw n) → ⊥
-    is_hex n ((_, _, e, _, (text, _, e1, f1, _)), _) =
+    is_hex n (_, _, e, _, (text, _, e1, f1, _)) =
         let w : text ≡ word = (let both = e in let other = e1 in cc) in
         none n (subst (λ (text : List ℕ). IsHex text n) w f1)
 

@@ -10,12 +10,15 @@ use Rattle.std.specs.List.{All}
 use Rattle.std.specs.Str.Parse.{AllDigits}
 use Rattle.space_model.specs.declared.command.Command.{Command}
 use Rattle.space_model.specs.declared.command.Command.TheVariants.{New, Gc}
+use Rattle.space_model.specs.declared.object.Guard.TheVariants.{Protected, Unprotected}
+use Rattle.space_model.specs.declared.object.Style.TheVariants.{Movable, Keeping}
 use Rattle.space_model.specs.declared.command.Input.{Input}
 use Rattle.space_model.specs.declared.command.Input.TheVariants.{From, Nil, Small}
 use Rattle.space_model.specs.declared.command.Operand.{Operand}
 use Rattle.space_model.specs.declared.command.Operand.TheVariants.{Root, Word}
-use Rattle.space_model.specs.CommandTexts.{operand_pieces, input_pieces, word_pieces, spaced_pieces, command_text, IsWritableOperand, IsWritableInput, IsWritableWord, AreWritable, IsWritable}
-use Rattle.space_model.specs.Grammar.{FormWord, Exactly, IdentWord, Decimal, Base16, OperandWord, InputWord, form_of, IsNumber, IsOperand, IsInput, IsFormWord, AreFormWords, HasLine, IsReading, words_of, without_cr}
+use Rattle.space_model.specs.CommandTexts.{operand_pieces, input_pieces, word_pieces, spaced_pieces, command_text, IsWritableOperand, IsWritableInput, IsWritableWord, AreWritable}
+use Rattle.space_model.specs.Given.{IsGiven}
+use Rattle.space_model.specs.Grammar.{FormWord, Exactly, IdentWord, Decimal, Base16, OperandWord, InputWord, form_of, IsNumber, IsOperand, IsInput, IsFormWord, AreFormWords, IsReading, words_of, without_cr}
 use Rattle.space_model.specs.Idents.{IsIdent, is_later_byte}
 use Rattle.space_model.specs.Spelling.{Say, text_of_pieces, hex}
 use Rattle.space_model.proofs.Cutting.{IsWord, IsWord-hex}
@@ -190,9 +193,12 @@ words_are (word ∷ words) h = (word_text word, map word_text words, refl, word_
 
 -- the fixed bytes of each form are plain, and no form is empty
 
-form_plain : (command : Command) → HasLine command → are_plain (form_of command) ≡ true
-form_plain (New root fields guard style) h = rw (h.0, h.1) refl
-form_plain _ h = refl
+form_plain : (command : Command) → are_plain (form_of command) ≡ true
+form_plain (New root fields Protected Movable) = refl
+form_plain (New root fields Protected Keeping) = refl
+form_plain (New root fields Unprotected Movable) = refl
+form_plain (New root fields Unprotected Keeping) = refl
+form_plain _ = refl
 
 abbrev IsSome : List FormWord → Type 0
 IsSome [] = ⊥
@@ -207,5 +213,5 @@ form_read : (words : List FormWord) → IsSome words → are_plain words ≡ tru
 form_read [] some e h = absurd some
 form_read (word ∷ words) some e h = rw (words_read (words_cut word words e h)) (words_are (word ∷ words) h)
 
-pub spelling_is_read : (command : Command) → IsWritable command → IsReading (command_text command) (Some command)
-spelling_is_read command h = (form_read (form_of command) (form_some command) (form_plain command h.1) h.0, h.1)
+pub spelling_is_read : (command : Command) → IsGiven command → IsReading (command_text command) (Some command)
+spelling_is_read command h = form_read (form_of command) (form_some command) (form_plain command) h

@@ -5,7 +5,7 @@ ghost use Rattle.space_model.specs.CommandTexts.{command_pieces};
 ghost use Rattle.space_model.specs.Spelling.{text_of_pieces, IsSpelled};
 ghost use Rattle.space_trace.specs.WordsLeft.{words_in, ReadsWords};
 
-use crate::line::{Line, put};
+use crate::line_buffer::{LineBuffer, put};
 use crate::words::next_word;
 use space_model::Command;
 
@@ -21,10 +21,10 @@ pub fn read_gc(rest: Option<&[u8]>) -> Option<Command>
 
 #[tactic(auto, using(crate::proofs::PieceLemmas::text_of_pieces_append, crate::proofs::PieceLemmas::spelled_append))]
 /// Puts the line of `gc` into an empty one.
-pub fn put_gc(line: &mut Line)
+pub fn put_gc(line: &mut LineBuffer)
     requires { line.old.items ≡ [] }
     ensures items { line.new.items ≡ text_of_pieces (command_pieces Command.Gc) }
-    ensures len { array_vec_len line.new < 256 }
+    ensures len { array_vec_len line.new < 128 }
     ensures spelled { IsSpelled (command_pieces Command.Gc) }
 {
     put(line, b"gc");

@@ -3,13 +3,12 @@
 #![tactic(auto)]
 
 mod collection_commands;
-mod commands;
-mod inputs;
 mod laws;
-mod line;
+mod line_buffer;
 mod new_command;
 mod numbers;
 mod object_commands;
+mod operands;
 mod outputs;
 mod reader;
 mod root_commands;

@@ -1,15 +1,43 @@
 // The line of the command that makes objects.
-ghost use Rattle.std.specs.Prelude.{◌≡◌, ◌≤◌, ◌<◌, ◌∷◌, [], length, codes};
+ghost use Rattle.std.specs.Prelude.{◌≡◌, ◌≤◌, ◌<◌, ◌∷◌, [], length, codes, MatchOption};
 ghost use Rattle.arrayvec.specs.ArrayVec.{array_vec_len};
 ghost use Rattle.space_model.specs.CommandTexts.{command_pieces};
+ghost use Rattle.space_model.specs.declared.object.Guard.{Guard as TheGuard};
+ghost use Rattle.space_model.specs.declared.object.Style.{Style as TheStyle};
 ghost use Rattle.space_model.specs.Grammar.{guard_word, style_word};
 ghost use Rattle.space_model.specs.Spelling.{text_of_pieces, IsSpelled};
 ghost use Rattle.space_trace.specs.WordsLeft.{words_in, ReadsWords};
 
-use crate::line::{Line, put, put_decimal};
+use crate::line_buffer::{LineBuffer, put, put_decimal};
 use crate::numbers::read_number;
 use crate::words::four_words;
 use space_model::{Command, Guard, Ident, Style};
+
+// The guard that the word is.
+fn read_guard(word: &[u8]) -> Option<Guard>
+    ensures { MatchOption result ((guard : TheGuard) → word.now ≡ guard_word guard → ⊥) (λ guard. word.now ≡ guard_word guard) }
+{
+    if word == b"P".as_slice() {
+        return Some(Guard::Protected);
+    }
+    if word == b"U".as_slice() {
+        return Some(Guard::Unprotected);
+    }
+    None
+}
+
+// The style that the word is.
+fn read_style(word: &[u8]) -> Option<Style>
+    ensures { MatchOption result ((style : TheStyle) → word.now ≡ style_word style → ⊥) (λ style. word.now ≡ style_word style) }
+{
+    if word == b"M".as_slice() {
+        return Some(Style::Movable);
+    }
+    if word == b"K".as_slice() {
+        return Some(Style::Keeping);
+    }
+    None
+}
 
 /// The command of the words after `new`.
 pub fn read_new(rest: Option<&[u8]>) -> Option<Command>
@@ -18,14 +46,13 @@ pub fn read_new(rest: Option<&[u8]>) -> Option<Command>
     let (root, fields, guard, style) = four_words(rest)?;
     let root = Ident::read(root)?;
     let fields = read_number(fields)?;
-    if guard != b"P".as_slice() || style != b"M".as_slice() {
-        return None;
-    }
+    let guard = read_guard(guard)?;
+    let style = read_style(style)?;
     Some(Command::New {
         root,
         fields,
-        guard: Guard::Protected,
-        style: Style::Movable,
+        guard,
+        style,
     })
 }
 
@@ -51,10 +78,10 @@ fn style_bytes(style: Style) -> &'static [u8]
 
 #[tactic(auto, using(crate::proofs::PieceLemmas::text_of_pieces_append, crate::proofs::PieceLemmas::spelled_append))]
 /// Puts the line of `new` into an empty one.
-pub fn put_new(line: &mut Line, root: Ident, fields: u64, guard: Guard, style: Style)
+pub fn put_new(line: &mut LineBuffer, root: Ident, fields: u64, guard: Guard, style: Style)
     requires { line.old.items ≡ [] }
     ensures items { line.new.items ≡ text_of_pieces (command_pieces (Command.New root fields guard style)) }
-    ensures len { array_vec_len line.new < 256 }
+    ensures len { array_vec_len line.new < 128 }
     ensures spelled { IsSpelled (command_pieces (Command.New root fields guard style)) }
 {
     put(line, b"new ");

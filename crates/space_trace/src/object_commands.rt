@@ -5,9 +5,9 @@ ghost use Rattle.space_model.specs.CommandTexts.{command_pieces};
 ghost use Rattle.space_model.specs.Spelling.{text_of_pieces, IsSpelled};
 ghost use Rattle.space_trace.specs.WordsLeft.{words_in, ReadsWords};
 
-use crate::inputs::{put_input, put_operand, read_input, read_operand};
-use crate::line::{Line, put, put_decimal};
+use crate::line_buffer::{LineBuffer, put, put_decimal};
 use crate::numbers::read_number;
+use crate::operands::{put_input, put_operand, read_input, read_operand};
 use crate::words::{three_words, two_words};
 use space_model::{Command, Input, Operand};
 
@@ -28,10 +28,10 @@ pub fn read_store(rest: Option<&[u8]>) -> Option<Command>
 
 #[tactic(auto, using(crate::proofs::PieceLemmas::text_of_pieces_append, crate::proofs::PieceLemmas::spelled_append))]
 /// Puts the line of `store` into an empty one.
-pub fn put_store(line: &mut Line, object: Operand, index: u64, value: Input)
+pub fn put_store(line: &mut LineBuffer, object: Operand, index: u64, value: Input)
     requires { line.old.items ≡ [] }
     ensures items { line.new.items ≡ text_of_pieces (command_pieces (Command.Store object index value)) }
-    ensures len { array_vec_len line.new < 256 }
+    ensures len { array_vec_len line.new < 128 }
     ensures spelled { IsSpelled (command_pieces (Command.Store object index value)) }
 {
     put(line, b"store ");
@@ -54,10 +54,10 @@ pub fn read_same(rest: Option<&[u8]>) -> Option<Command>
 
 #[tactic(auto, using(crate::proofs::PieceLemmas::text_of_pieces_append, crate::proofs::PieceLemmas::spelled_append))]
 /// Puts the line of `same` into an empty one.
-pub fn put_same(line: &mut Line, left: Operand, right: Operand)
+pub fn put_same(line: &mut LineBuffer, left: Operand, right: Operand)
     requires { line.old.items ≡ [] }
     ensures items { line.new.items ≡ text_of_pieces (command_pieces (Command.Same left right)) }
-    ensures len { array_vec_len line.new < 256 }
+    ensures len { array_vec_len line.new < 128 }
     ensures spelled { IsSpelled (command_pieces (Command.Same left right)) }
 {
     put(line, b"same ");

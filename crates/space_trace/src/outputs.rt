@@ -4,7 +4,7 @@ ghost use Rattle.arrayvec.specs.ArrayVec.{array_vec_len};
 ghost use Rattle.space_model.specs.Spelling.{text_of_pieces, IsSpelled};
 ghost use Rattle.space_model.specs.Texts.{kind_text, event_pieces, value_pieces, refusal_text, truth_text, named_pieces, reply_pieces, malformed_pieces};
 
-use crate::line::{Line, put, put_decimal, put_hex};
+use crate::line_buffer::{LineBuffer, put, put_decimal, put_hex};
 use space_model::{Event, Kind, Refusal, Reply, Value};
 
 fn kind_bytes(kind: Kind) -> &'static [u8]
@@ -19,10 +19,10 @@ fn kind_bytes(kind: Kind) -> &'static [u8]
 }
 
 /// Puts the event's line into an empty one.
-pub fn put_event(line: &mut Line, event: Event)
+pub fn put_event(line: &mut LineBuffer, event: Event)
     requires { line.old.items ≡ [] }
     ensures items { line.new.items ≡ text_of_pieces (event_pieces event) }
-    ensures len { array_vec_len line.new < 256 }
+    ensures len { array_vec_len line.new < 128 }
     ensures spelled { IsSpelled (event_pieces event) }
 {
     match event {
@@ -39,10 +39,10 @@ pub fn put_event(line: &mut Line, event: Event)
     }
 }
 
-fn put_value(line: &mut Line, value: Value)
-    requires { array_vec_len line.old ≤ 100 }
+fn put_value(line: &mut LineBuffer, value: Value)
+    requires { array_vec_len line.old ≤ 90 }
     ensures items { line.new.items ≡ line.old.items ++ text_of_pieces (value_pieces value) }
-    ensures len { array_vec_len line.new ≤ array_vec_len line.old + 41 }
+    ensures len { array_vec_len line.new ≤ array_vec_len line.old + 21 }
     ensures spelled { IsSpelled (value_pieces value) }
 {
     match value {
@@ -68,13 +68,14 @@ fn refusal_bytes(why: Refusal) -> &'static [u8]
         Refusal::NoWord => b"error no word",
         Refusal::NotObject => b"error not an object",
         Refusal::NoField => b"error no field",
+        Refusal::Protected => b"error protected",
     }
 }
 
-fn put_named(line: &mut Line, names: Option<u64>)
-    requires { array_vec_len line.old ≤ 100 }
+fn put_named(line: &mut LineBuffer, names: Option<u64>)
+    requires { array_vec_len line.old ≤ 90 }
     ensures items { line.new.items ≡ line.old.items ++ text_of_pieces (named_pieces names) }
-    ensures len { array_vec_len line.new ≤ array_vec_len line.old + 41 }
+    ensures len { array_vec_len line.new ≤ array_vec_len line.old + 21 }
     ensures spelled { IsSpelled (named_pieces names) }
 {
     match names {
@@ -94,10 +95,10 @@ fn truth_bytes(truth: bool) -> &'static [u8]
 }
 
 /// Puts the reply's line into an empty one.
-pub fn put_reply(line: &mut Line, reply: Reply)
+pub fn put_reply(line: &mut LineBuffer, reply: Reply)
     requires { line.old.items ≡ [] }
     ensures items { line.new.items ≡ text_of_pieces (reply_pieces reply) }
-    ensures len { array_vec_len line.new < 256 }
+    ensures len { array_vec_len line.new < 128 }
     ensures spelled { IsSpelled (reply_pieces reply) }
 {
     match reply {
@@ -127,10 +128,10 @@ pub fn put_reply(line: &mut Line, reply: Reply)
 }
 
 /// Puts the line that tells of a malformed or too long one into an empty one.
-pub fn put_malformed(line: &mut Line, number: u64)
+pub fn put_malformed(line: &mut LineBuffer, number: u64)
     requires { line.old.items ≡ [] }
     ensures items { line.new.items ≡ text_of_pieces (malformed_pieces number) }
-    ensures len { array_vec_len line.new < 256 }
+    ensures len { array_vec_len line.new < 128 }
 {
     put(line, b"line ");
     put_decimal(line, number);

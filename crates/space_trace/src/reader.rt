@@ -1,9 +1,14 @@
 // Reads the lines of a trace.
-ghost use Rattle.std.specs.Prelude.{◌≡◌, ◌↔◌, Option, IsTrue, IfOk, OnErr};
+ghost use Rattle.std.specs.Prelude.{◌≡◌, ◌↔◌, ◌∷◌, Option, IsTrue, IfOk, OnErr};
 ghost use Rattle.space_model.specs.declared.command.Command.{Command as TheCommand};
 ghost use Rattle.space_model.specs.Grammar.{without_cr, IsBlank, IsReading};
+ghost use Rattle.space_trace.specs.WordsLeft.{words_in, ReadsWords};
 
-use crate::commands::read_words;
+use crate::collection_commands::read_gc;
+use crate::new_command::read_new;
+use crate::object_commands::{read_same, read_store};
+use crate::root_commands::{read_drop, read_load, read_set};
+use crate::stack_commands::{read_pop, read_push, read_raw};
 use crate::words::next_word;
 use space_model::Command;
 
@@ -35,6 +40,25 @@ fn is_blank(line: &[u8]) -> bool
     }
 }
 
+// The command of a line with this first word. Each is read by the file of its theme.
+fn command_of_words(name: &[u8], rest: Option<&[u8]>) -> Option<Command>
+    ensures { ReadsWords (name.now ∷ words_in rest.entry) result }
+{
+    match name {
+        _ if name == b"new".as_slice() => read_new(rest),
+        _ if name == b"set".as_slice() => read_set(rest),
+        _ if name == b"drop".as_slice() => read_drop(rest),
+        _ if name == b"push".as_slice() => read_push(rest),
+        _ if name == b"raw".as_slice() => read_raw(rest),
+        _ if name == b"pop".as_slice() => read_pop(rest),
+        _ if name == b"store".as_slice() => read_store(rest),
+        _ if name == b"load".as_slice() => read_load(rest),
+        _ if name == b"same".as_slice() => read_same(rest),
+        _ if name == b"gc".as_slice() => read_gc(rest),
+        _ => None,
+    }
+}
+
 /// The command of a line without its LF. `None` is an empty line or one that begins with `;`: it is lawful, and has no
 /// command. One CR at the end of the line is dropped first.
 pub fn read_command(line: &[u8]) -> Result<Option<Command>, Malformed>
@@ -48,7 +72,7 @@ pub fn read_command(line: &[u8]) -> Result<Option<Command>, Malformed>
     let Some((name, rest)) = next_word(Some(line)) else {
         return Err(Malformed);
     };
-    match read_words(name, rest) {
+    match command_of_words(name, rest) {
         Some(command) => Ok(Some(command)),
         None => Err(Malformed),
     }

@@ -5,9 +5,9 @@ ghost use Rattle.space_model.specs.CommandTexts.{command_pieces};
 ghost use Rattle.space_model.specs.Spelling.{text_of_pieces, IsSpelled};
 ghost use Rattle.space_trace.specs.WordsLeft.{words_in, ReadsWords};
 
-use crate::inputs::{put_input, put_operand, read_input, read_operand};
-use crate::line::{Line, put, put_decimal};
+use crate::line_buffer::{LineBuffer, put, put_decimal};
 use crate::numbers::read_number;
+use crate::operands::{put_input, put_operand, read_input, read_operand};
 use crate::words::{one_word, three_words, two_words};
 use space_model::{Command, Ident, Input, Operand};
 
@@ -23,10 +23,10 @@ pub fn read_set(rest: Option<&[u8]>) -> Option<Command>
 
 #[tactic(auto, using(crate::proofs::PieceLemmas::text_of_pieces_append, crate::proofs::PieceLemmas::spelled_append))]
 /// Puts the line of `set` into an empty one.
-pub fn put_set(line: &mut Line, root: Ident, value: Input)
+pub fn put_set(line: &mut LineBuffer, root: Ident, value: Input)
     requires { line.old.items ≡ [] }
     ensures items { line.new.items ≡ text_of_pieces (command_pieces (Command.Set root value)) }
-    ensures len { array_vec_len line.new < 256 }
+    ensures len { array_vec_len line.new < 128 }
     ensures spelled { IsSpelled (command_pieces (Command.Set root value)) }
 {
     put(line, b"set ");
@@ -46,10 +46,10 @@ pub fn read_drop(rest: Option<&[u8]>) -> Option<Command>
 
 #[tactic(auto, using(crate::proofs::PieceLemmas::text_of_pieces_append, crate::proofs::PieceLemmas::spelled_append))]
 /// Puts the line of `drop` into an empty one.
-pub fn put_drop(line: &mut Line, root: Ident)
+pub fn put_drop(line: &mut LineBuffer, root: Ident)
     requires { line.old.items ≡ [] }
     ensures items { line.new.items ≡ text_of_pieces (command_pieces (Command.DropRoot root)) }
-    ensures len { array_vec_len line.new < 256 }
+    ensures len { array_vec_len line.new < 128 }
     ensures spelled { IsSpelled (command_pieces (Command.DropRoot root)) }
 {
     put(line, b"drop ");
@@ -73,10 +73,10 @@ pub fn read_load(rest: Option<&[u8]>) -> Option<Command>
 
 #[tactic(auto, using(crate::proofs::PieceLemmas::text_of_pieces_append, crate::proofs::PieceLemmas::spelled_append))]
 /// Puts the line of `load` into an empty one.
-pub fn put_load(line: &mut Line, root: Ident, object: Operand, index: u64)
+pub fn put_load(line: &mut LineBuffer, root: Ident, object: Operand, index: u64)
     requires { line.old.items ≡ [] }
     ensures items { line.new.items ≡ text_of_pieces (command_pieces (Command.Load root object index)) }
-    ensures len { array_vec_len line.new < 256 }
+    ensures len { array_vec_len line.new < 128 }
     ensures spelled { IsSpelled (command_pieces (Command.Load root object index)) }
 {
     put(line, b"load ");

@@ -5,9 +5,9 @@ ghost use Rattle.space_model.specs.CommandTexts.{command_pieces};
 ghost use Rattle.space_model.specs.Spelling.{text_of_pieces, IsSpelled};
 ghost use Rattle.space_trace.specs.WordsLeft.{words_in, ReadsWords};
 
-use crate::inputs::{put_input, read_input};
-use crate::line::{Line, put, put_hex};
+use crate::line_buffer::{LineBuffer, put, put_hex};
 use crate::numbers::read_hex;
+use crate::operands::{put_input, read_input};
 use crate::words::{next_word, one_word};
 use space_model::{Command, Input};
 
@@ -22,10 +22,10 @@ pub fn read_push(rest: Option<&[u8]>) -> Option<Command>
 
 #[tactic(auto, using(crate::proofs::PieceLemmas::text_of_pieces_append, crate::proofs::PieceLemmas::spelled_append))]
 /// Puts the line of `push` into an empty one.
-pub fn put_push(line: &mut Line, value: Input)
+pub fn put_push(line: &mut LineBuffer, value: Input)
     requires { line.old.items ≡ [] }
     ensures items { line.new.items ≡ text_of_pieces (command_pieces (Command.Push value)) }
-    ensures len { array_vec_len line.new < 256 }
+    ensures len { array_vec_len line.new < 128 }
     ensures spelled { IsSpelled (command_pieces (Command.Push value)) }
 {
     put(line, b"push ");
@@ -43,10 +43,10 @@ pub fn read_raw(rest: Option<&[u8]>) -> Option<Command>
 
 #[tactic(auto, using(crate::proofs::PieceLemmas::text_of_pieces_append, crate::proofs::PieceLemmas::spelled_append))]
 /// Puts the line of `raw` into an empty one.
-pub fn put_raw(line: &mut Line, word: u64)
+pub fn put_raw(line: &mut LineBuffer, word: u64)
     requires { line.old.items ≡ [] }
     ensures items { line.new.items ≡ text_of_pieces (command_pieces (Command.Raw word)) }
-    ensures len { array_vec_len line.new < 256 }
+    ensures len { array_vec_len line.new < 128 }
     ensures spelled { IsSpelled (command_pieces (Command.Raw word)) }
 {
     put(line, b"raw ");
@@ -65,10 +65,10 @@ pub fn read_pop(rest: Option<&[u8]>) -> Option<Command>
 
 #[tactic(auto, using(crate::proofs::PieceLemmas::text_of_pieces_append, crate::proofs::PieceLemmas::spelled_append))]
 /// Puts the line of `pop` into an empty one.
-pub fn put_pop(line: &mut Line)
+pub fn put_pop(line: &mut LineBuffer)
     requires { line.old.items ≡ [] }
     ensures items { line.new.items ≡ text_of_pieces (command_pieces Command.Pop) }
-    ensures len { array_vec_len line.new < 256 }
+    ensures len { array_vec_len line.new < 128 }
     ensures spelled { IsSpelled (command_pieces Command.Pop) }
 {
     put(line, b"pop");

@@ -6,7 +6,7 @@ use std::alloc::{AllocError as NoMemory, Global};
 use std::test::Fail;
 
 // The line, and how its command is spelled.
-const FORMS: [(&[u8], &[u8]); 24] = [
+const FORMS: [(&[u8], &[u8]); 27] = [
     (b"new a 3 P M", b"new a 3 P M\n"),
     (b"new a 79 P M", b"new a 79 P M\n"),
     (
@@ -14,6 +14,9 @@ const FORMS: [(&[u8], &[u8]); 24] = [
         b"new a 18446744073709551615 P M\n",
     ),
     (b"new Ab_9 000 P M", b"new Ab_9 0 P M\n"),
+    (b"new a 3 U M", b"new a 3 U M\n"),
+    (b"new a 3 P K", b"new a 3 P K\n"),
+    (b"new a 3 U K", b"new a 3 U K\n"),
     (b"set _a b", b"set _a b\n"),
     (b"set a nil", b"set a nil\n"),
     (
@@ -48,7 +51,7 @@ const FORMS: [(&[u8], &[u8]); 24] = [
 // Lines without a command.
 const BLANK: [&[u8]; 5] = [b"", b"\r", b";", b"; a comment", b";same a b\r"];
 
-const MALFORMED: [&[u8]; 43] = [
+const MALFORMED: [&[u8]; 46] = [
     b" ",
     b" ; a comment",
     b"\r\r",
@@ -77,8 +80,11 @@ const MALFORMED: [&[u8]; 43] = [
     b"pop a",
     b"pop ",
     b"Same a b",
-    b"new a 3 U M",
-    b"new a 3 P K",
+    b"new a 3 M P",
+    b"new a 3 P",
+    b"new a 3 u M",
+    b"new a 3 P k",
+    b"new a 3 PU M",
     b"new a 000000000000000000001 P M",
     b"new a 0x1 P M",
     b"new nil 1 P M",
@@ -119,7 +125,7 @@ const EVENTS: [(Event, &[u8]); 4] = [
     ),
 ];
 
-const REPLIES: [(Reply, &[u8]); 20] = [
+const REPLIES: [(Reply, &[u8]); 21] = [
     (
         Reply::Made {
             name: 1,
@@ -209,6 +215,12 @@ const REPLIES: [(Reply, &[u8]); 20] = [
             why: Refusal::NoField,
         },
         b"error no field\n",
+    ),
+    (
+        Reply::Refused {
+            why: Refusal::Protected,
+        },
+        b"error protected\n",
     ),
 ];
 

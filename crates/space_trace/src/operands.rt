@@ -7,7 +7,7 @@ ghost use Rattle.space_model.specs.declared.command.Input.{Input as TheInput};
 ghost use Rattle.space_model.specs.declared.command.Operand.{Operand as TheOperand};
 ghost use Rattle.space_model.specs.Grammar.{IsOperand, IsInput};
 
-use crate::line::{Line, put, put_decimal};
+use crate::line_buffer::{LineBuffer, put, put_decimal};
 use crate::numbers::read_number;
 use space_model::{Ident, Input, Operand};
 
@@ -67,11 +67,11 @@ pub fn read_input(word: &[u8]) -> Option<Input>
     }
 }
 
-/// Puts the operand at the end of the line, which has 150 bytes at most before.
-pub fn put_operand(line: &mut Line, operand: Operand)
-    requires { array_vec_len line.old ≤ 150 }
+/// Puts the operand at the end of the line, which has 90 bytes at most before.
+pub fn put_operand(line: &mut LineBuffer, operand: Operand)
+    requires { array_vec_len line.old ≤ 90 }
     ensures items { line.new.items ≡ line.old.items ++ text_of_pieces (operand_pieces operand) }
-    ensures len { array_vec_len line.new ≤ array_vec_len line.old + 41 }
+    ensures len { array_vec_len line.new ≤ array_vec_len line.old + 32 }
     ensures spelled { IsSpelled (operand_pieces operand) }
 {
     match operand {
@@ -83,11 +83,11 @@ pub fn put_operand(line: &mut Line, operand: Operand)
     }
 }
 
-/// Puts the value at the end of the line, which has 150 bytes at most before.
-pub fn put_input(line: &mut Line, input: Input)
-    requires { array_vec_len line.old ≤ 150 }
+/// Puts the value at the end of the line, which has 90 bytes at most before.
+pub fn put_input(line: &mut LineBuffer, input: Input)
+    requires { array_vec_len line.old ≤ 90 }
     ensures items { line.new.items ≡ line.old.items ++ text_of_pieces (input_pieces input) }
-    ensures len { array_vec_len line.new ≤ array_vec_len line.old + 41 }
+    ensures len { array_vec_len line.new ≤ array_vec_len line.old + 32 }
     ensures spelled { IsSpelled (input_pieces input) }
 {
     match input {

@@ -9,11 +9,11 @@ use arrayvec::ArrayVec;
 use itoa::Buffer;
 
 /// A line takes no memory: the longest has fewer bytes than this.
-pub type Line = ArrayVec<u8, 256>;
+pub type LineBuffer = ArrayVec<u8, 128>;
 
 /// Puts the text at the end.
-pub fn put(line: &mut Line, text: &[u8])
-    requires { array_vec_len line.old + length text.now ≤ 256 }
+pub fn put(line: &mut LineBuffer, text: &[u8])
+    requires { array_vec_len line.old + length text.now ≤ 128 }
     ensures items { line.new.items ≡ line.old.items ++ text.now }
     ensures len { array_vec_len line.new ≡ array_vec_len line.old + length text.now }
 {
@@ -23,10 +23,10 @@ pub fn put(line: &mut Line, text: &[u8])
 }
 
 /// Puts the number in base 10 at the end.
-pub fn put_decimal(line: &mut Line, number: u64)
-    requires { array_vec_len line.old ≤ 200 }
+pub fn put_decimal(line: &mut LineBuffer, number: u64)
+    requires { array_vec_len line.old ≤ 100 }
     ensures items { line.new.items ≡ line.old.items ++ decimal number }
-    ensures len { array_vec_len line.new ≤ array_vec_len line.old + 40 }
+    ensures len { array_vec_len line.new ≤ array_vec_len line.old + 20 }
 {
     let mut buffer = Buffer::new();
     put(line, buffer.format(number).as_bytes());
@@ -45,8 +45,8 @@ fn glyph(digit: u8) -> u8
 }
 
 // Puts the digits of the number in base 16 at the end, and none for 0.
-fn put_hex_digits(line: &mut Line, number: u64)
-    requires { array_vec_len line.old + length (digits_of 16 number) ≤ 256 }
+fn put_hex_digits(line: &mut LineBuffer, number: u64)
+    requires { array_vec_len line.old + length (digits_of 16 number) ≤ 128 }
     ensures items { line.new.items ≡ line.old.items ++ hex_digits number }
     ensures len { array_vec_len line.new ≡ array_vec_len line.old + length (digits_of 16 number) }
 {
@@ -57,10 +57,10 @@ fn put_hex_digits(line: &mut Line, number: u64)
 }
 
 /// Puts the number in base 16 at the end, behind `0x`.
-pub fn put_hex(line: &mut Line, number: u64)
-    requires { array_vec_len line.old ≤ 200 }
+pub fn put_hex(line: &mut LineBuffer, number: u64)
+    requires { array_vec_len line.old ≤ 100 }
     ensures items { line.new.items ≡ line.old.items ++ hex number }
-    ensures len { array_vec_len line.new ≤ array_vec_len line.old + 20 }
+    ensures len { array_vec_len line.new ≤ array_vec_len line.old + 18 }
 {
     put(line, b"0x");
     if number == 0 {

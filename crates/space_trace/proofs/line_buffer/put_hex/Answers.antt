@@ -1,6 +1,6 @@
 use Rattle.std.proofs.Common.{arith}
 use Rattle.space_trace.proofs.HexLemmas.{length_hex}
-use Rattle.space_trace.proofs.line.put_hex.Goals as goal
+use Rattle.space_trace.proofs.line_buffer.put_hex.Goals as goal
 
 pub put_hex_digits-requires : goal.put_hex_digits-requires
 put_hex_digits-requires c = omega (arith, length_hex 16 c.args.number (omega arith), c.put.ensures.len)

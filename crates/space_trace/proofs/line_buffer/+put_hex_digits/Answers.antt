@@ -1,6 +1,6 @@
 use Rattle.std.proofs.Common.{arith, rules}
 use Rattle.space_trace.proofs.HexLemmas.{length_step, pushed}
-use Rattle.space_trace.proofs.line.+put_hex_digits.Goals as goal
+use Rattle.space_trace.proofs.line_buffer.+put_hex_digits.Goals as goal
 
 pub put_hex_digits-requires : goal.put_hex_digits-requires
 put_hex_digits-requires t c = (omega (arith, c.decreases), omega (arith, length_step c.args.number c.if-number-gt0.true, c.requires))
