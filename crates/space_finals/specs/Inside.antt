@@ -1,0 +1,17 @@
+-- What the fields of `Finals` stand for, and what holds of them.
+use Rattle.std.specs.Prelude.{drop}
+use Rattle.std.specs.VecDeque.{deque_len, deque_capacity}
+use Rattle.space_finals.specs.declared.finals.Finals.TheInside.{Inside}
+use Rattle.space_finals.specs.FinalLists.{FinalLists}
+use Rattle.space_finals.specs.StoredFinals.{pairs_in, AreStored}
+
+-- the pairs of the names that have a finalizer, and those in the queue that are still to run
+abbrev pub view_from : Inside → FinalLists
+view_from f = record {
+  finals = pairs_in (λ labels. labels.items) f.defined.entries;
+  queue = drop f.ran (pairs_in (λ labels. labels.items) f.queue.items);
+}
+
+-- what holds of all fields together
+abbrev pub AreFinals : Inside → Type 0
+AreFinals f = AreStored (λ labels. labels.items) f.defined.entries f.queue.items f.ran (deque_len f.queue) (deque_capacity f.queue)

@@ -1,0 +1,3 @@
+pub mod FinalLists
+pub mod StoredFinals
+pub mod Inside

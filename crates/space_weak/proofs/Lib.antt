@@ -1,0 +1,4 @@
+pub mod EntryLemmas
+pub mod SetLemmas
+pub mod WalkLemmas
+pub mod EntryLaws

@@ -1,0 +1,3 @@
+pub mod WeakEntries
+pub mod StoredEntries
+pub mod Inside
