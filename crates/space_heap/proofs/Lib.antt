@@ -13,6 +13,8 @@ mod GonePages
 pub mod NumberLists
 pub mod MappedLaws
 pub mod MarkingLaws
+pub mod GenerationLaws
+mod RaisedAges
 pub mod Coherence
 pub mod SettledLaws
 pub mod SweptLaws

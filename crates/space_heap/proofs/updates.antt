@@ -6,6 +6,8 @@ pub mod TakenSlots
 pub mod Placed
 pub mod PageAllocations
 pub mod RecolouredSlots
+pub mod NotedSlots
 pub mod UnmarkedSlots
+pub mod OldMarkedSlots
 pub mod SettledSlots
 pub mod SweptSlots

@@ -7,6 +7,7 @@ pub mod NewPages
 pub mod Allocations
 pub mod planes
 pub mod Marking
+pub mod Generations
 pub mod SoundHeap
 pub mod Sweeping
 pub mod Walks

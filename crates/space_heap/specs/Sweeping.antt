@@ -10,10 +10,11 @@ use Rattle.space_heap.specs.Slots.{ObjectView, SlotView, Free, Moved, Object, ha
 use Rattle.space_heap.specs.HeapView.{PageView, HeapView, no_page, page_at, pool_at, map_page}
 use Rattle.space_heap.specs.Objects.{is_occupied, object_of}
 pub use Rattle.space_heap.specs.Marking.{is_white}
+use Rattle.space_heap.specs.Generations.{raised_age}
 
--- the object after a verdict: it is gone where it is white
+-- the object after a verdict: it is gone where it is white, and a protected one that isn't is one older, up to age 3
 abbrev pub settled_object : ObjectView → ObjectView
-settled_object o = record o { gone = is_white o.colour }
+settled_object o = record o { gone = is_white o.colour; age = if is_white o.colour then o.age else raised_age o.guard o.age }
 
 -- the pages with a pool, ascending
 abbrev pub pooled_pages : HeapView → List ℕ
@@ -36,7 +37,7 @@ others_after Minor n = n
 others_after Major n = n + 1
 others_after Full n = n + 1
 
--- the heap after a verdict: each white object is gone, each page with a pool waits for a sweep, and the verdict is counted
+-- the heap after a verdict: each white object is gone, each protected other one is older, each page with a pool waits for a sweep, and the verdict is counted
 unfoldable pub settled : HeapView → Kind → HeapView
 settled v kind = record v {
   pages = map (map_page settled_object) v.pages;

@@ -2,13 +2,15 @@
 use Rattle.std.specs.Prelude.{◌≡◌, ℕ, ◌<◌, ◌≤◌, Bool, true, false}
 use Rattle.space_model.specs.Layout.{page_of}
 use Rattle.space_planes.specs.Planes.{bit}
+use Rattle.space_heap.specs.declared.heap.walking.Found.{Found}
 use Rattle.space_heap.specs.declared.marks.Marks.{Marks}
 use Rattle.space_heap.specs.declared.marks.Sought.{Sought}
-use Rattle.space_heap.specs.declared.marks.Sought.TheVariants.{Present, Gone}
-use Rattle.space_heap.specs.planes.MarkPlanes.{is_present}
+use Rattle.space_heap.specs.declared.marks.Sought.TheVariants.{Present, Gone, MinorScan}
+use Rattle.space_heap.specs.planes.MarkPlanes.{is_present, is_minor_scan_in}
 use Rattle.space_heap.specs.HeapView.{HeapView}
-use Rattle.space_heap.specs.Objects.{is_object}
+use Rattle.space_heap.specs.Objects.{is_object, object_of}
 use Rattle.space_heap.specs.Sweeping.{is_gone}
+use Rattle.space_heap.specs.Generations.{is_minor_scan}
 
 -- no address from this one on passes the test
 abbrev pub HasNoneFrom : (ℕ → Bool) → ℕ → Type 0
@@ -47,12 +49,34 @@ HasNoGoneFrom v from = HasNoneFrom (is_gone v) from
 abbrev pub IsNextGone : HeapView → ℕ → ℕ → Type 0
 IsNextGone v from a = IsNext (is_gone v) from a
 
+-- from this address on a minor marking scans no object again
+abbrev pub HasNoMinorScanFrom : HeapView → ℕ → Type 0
+HasNoMinorScanFrom v from = HasNoneFrom (is_minor_scan v) from
+
+-- the least address from this one on whose object a minor marking scans again
+abbrev pub IsNextMinorScan : HeapView → ℕ → ℕ → Type 0
+IsNextMinorScan v from a = IsNext (is_minor_scan v) from a
+
 -- whether a slot of the page with these planes holds what is sought
 abbrev pub is_sought_in : Sought → Marks → ℕ → Bool
 is_sought_in Present m s = is_present m s
 is_sought_in Gone m s = bit m.gone s
+is_sought_in MinorScan m s = is_minor_scan_in m s
 
 -- whether what is sought stands at the address
 abbrev pub is_sought : Sought → HeapView → ℕ → Bool
 is_sought Present v a = is_object v a
 is_sought Gone v a = is_gone v a
+is_sought MinorScan v a = is_minor_scan v a
+
+-- what is sought at the least address from this one on, with its name
+abbrev pub IsFound : Sought → HeapView → ℕ → Found → Type 0
+IsFound sought v from found = IsNext (is_sought sought v) from found.address × (found.name ≡ (object_of v found.address).name)
+
+-- what is sought on the page at the least address from this one on, with its name
+abbrev pub IsFoundOn : Sought → HeapView → ℕ → ℕ → Found → Type 0
+IsFoundOn sought v page from found = IsNextOn (is_sought sought v) page from found.address × (found.name ≡ (object_of v found.address).name)
+
+-- the gone object with the least address from this one on, and its name
+abbrev pub IsFoundGone : HeapView → ℕ → Found → Type 0
+IsFoundGone v from found = IsNextGone v from found.address × (found.name ≡ (object_of v found.address).name)

@@ -4,6 +4,7 @@ ghost use Rattle.space_heap.specs.HeapView.{empty_heap, pool_at};
 ghost use Rattle.space_heap.specs.SoundHeap.{IsSoundHeap};
 
 mod allocating;
+mod generations;
 mod marking;
 mod reading;
 mod sweeping;
@@ -17,6 +18,7 @@ use space_planes::{MOST_BITS, Plane};
 use space_pools::Pools;
 use std::alloc::{AllocError as NoMemory, Global};
 use std::marker::Model;
+pub use walking::Found;
 
 /// Objects at addresses, with their fields and the collector's marks.
 #[derive(Drop)]

@@ -1,9 +1,9 @@
 // The planes of one page, which tell all of its slots but their words.
 ghost use Rattle.std.specs.Prelude.{◌≡◌, ◌<◌, ◌≤◌, ℕ, true, false, [], ◌∷◌, ◌++◌, not, ◌&&◌, length, map, slice_set, vec_capacity, IfOk, MatchOption};
 ghost use Rattle.space_planes.specs.Planes.{bit};
-ghost use Rattle.space_heap.specs.planes.MarkPlanes.{clear_marks, AreWide, new_marks, traits_from, marks_at, guard_from, is_unprotected, colour_from, age_from, is_present};
+ghost use Rattle.space_heap.specs.planes.MarkPlanes.{clear_marks, AreWide, new_marks, traits_from, marks_at, guard_from, is_unprotected, colour_from, age_from, is_present, is_minor_scan_in};
 ghost use Rattle.space_heap.specs.Walks.{HasNoneFrom, IsNext, is_sought_in};
-ghost use Rattle.space_heap.specs.planes.RecolouredMarks.{is_marked as is_marked_colour, is_black as is_black_colour, recoloured_marks, unmarked_marks};
+ghost use Rattle.space_heap.specs.planes.RecolouredMarks.{is_marked as is_marked_colour, is_black as is_black_colour, recoloured_marks, unmarked_marks, remembered_marks, kept_marks, unprotected_marks, old_marked_marks};
 
 use crate::colour::Colour;
 use space_model::Guard;
@@ -38,11 +38,12 @@ pub struct Traits {
     pub gone: bool,
 }
 
-// What a walk over slots seeks: objects that aren't gone, or those that are.
+// What a walk over slots seeks: objects that aren't gone, those that are, or those that a minor marking scans from its start.
 #[derive(Clone, Copy)]
 pub enum Sought {
     Present,
     Gone,
+    MinorScan,
 }
 
 // The guard by its bit.
@@ -109,7 +110,7 @@ fn is_black(colour: Colour) -> bool
 }
 
 // Writes a bit.
-fn write_bit(plane: &mut Plane, s: u32, bit: bool)
+pub fn write_bit(plane: &mut Plane, s: u32, bit: bool)
     requires { s < length plane.old }
     ensures { plane.new ≡ slice_set plane.old s bit }
 {
@@ -157,6 +158,51 @@ pub fn unmark_pages(marks: &mut Vec<Marks>)
 {
     for page in 0..marks.len() {
         marks[page].unmark();
+    }
+}
+
+// The object of a slot of a page is remembered, or isn't any more.
+pub fn remember_slot(marks: &mut Vec<Marks>, page: u32, slot: u32, remembered: bool)
+    requires there { page < length marks.old.items }
+    requires wide { AreWide (marks_at marks.old.items page) (length (marks_at marks.old.items page).object) }
+    requires within { slot < length (marks_at marks.old.items page).object }
+    ensures items { marks.new.items ≡ slice_set marks.old.items page (remembered_marks (marks_at marks.old.items page) slot remembered) }
+    ensures room { vec_capacity marks.new ≡ vec_capacity marks.old }
+{
+    marks[page as usize].remember(slot, remembered);
+}
+
+// The object of a slot of a page is kept.
+pub fn keep_slot(marks: &mut Vec<Marks>, page: u32, slot: u32)
+    requires there { page < length marks.old.items }
+    requires wide { AreWide (marks_at marks.old.items page) (length (marks_at marks.old.items page).object) }
+    requires within { slot < length (marks_at marks.old.items page).object }
+    ensures items { marks.new.items ≡ slice_set marks.old.items page (kept_marks (marks_at marks.old.items page) slot) }
+    ensures room { vec_capacity marks.new ≡ vec_capacity marks.old }
+{
+    marks[page as usize].keep(slot);
+}
+
+// The object of a slot of a page is unprotected.
+pub fn unprotect_slot(marks: &mut Vec<Marks>, page: u32, slot: u32)
+    requires there { page < length marks.old.items }
+    requires wide { AreWide (marks_at marks.old.items page) (length (marks_at marks.old.items page).object) }
+    requires within { slot < length (marks_at marks.old.items page).object }
+    ensures items { marks.new.items ≡ slice_set marks.old.items page (unprotected_marks (marks_at marks.old.items page) slot) }
+    ensures room { vec_capacity marks.new ≡ vec_capacity marks.old }
+{
+    marks[page as usize].unprotect(slot);
+}
+
+// On all pages old and kept objects are black, and all others white.
+pub fn mark_old_pages(marks: &mut Vec<Marks>)
+    requires { (k : ℕ) → AreWide (marks_at marks.old.items k) (length (marks_at marks.old.items k).object) }
+    ensures len { length marks.new.items ≡ length marks.old.items }
+    ensures each { (k : ℕ) → marks_at marks.new.items k ≡ old_marked_marks (marks_at marks.old.items k) }
+    ensures room { vec_capacity marks.new ≡ vec_capacity marks.old }
+{
+    'pages: for page in 0..marks.len() {
+        marks[page].mark_old();
     }
 }
 
@@ -257,6 +303,73 @@ impl Marks {
         self.kept.fill(false);
     }
 
+    // The object of the slot is remembered, or isn't any more.
+    pub fn remember(&mut self, s: u32, remembered: bool)
+        requires wide { AreWide self.old (length self.old.object) }
+        requires within { s < length self.old.object }
+        ensures { self.new ≡ remembered_marks self.old s remembered }
+    {
+        write_bit(&mut self.remembered, s, remembered);
+    }
+
+    // The object of the slot is kept.
+    pub fn keep(&mut self, s: u32)
+        requires wide { AreWide self.old (length self.old.object) }
+        requires within { s < length self.old.object }
+        ensures { self.new ≡ kept_marks self.old s }
+    {
+        self.kept.set(s);
+    }
+
+    // The object of the slot is unprotected: it has age 0, and isn't remembered.
+    pub fn unprotect(&mut self, s: u32)
+        requires wide { AreWide self.old (length self.old.object) }
+        requires within { s < length self.old.object }
+        ensures { self.new ≡ unprotected_marks self.old s }
+    {
+        self.guard.set(s);
+        self.age_low.clear(s);
+        self.age_high.clear(s);
+        self.remembered.clear(s);
+    }
+
+    // Old and kept objects are black, and all others white.
+    pub fn mark_old(&mut self)
+        requires { AreWide self.old (length self.old.object) }
+        ensures { self.new ≡ old_marked_marks self.old }
+    {
+        self.age_low.and_into(&self.age_high, &mut self.black);
+        self.black.and_not_into(&self.guard, &mut self.marked);
+        self.marked.or_into(&self.kept, &mut self.black);
+        self.marked.copy_from(&self.black);
+    }
+
+    // Whether a minor marking scans the object of the slot from its start.
+    fn is_minor_scan(&self, s: u32) -> bool
+        requires wide { AreWide self.now (length self.now.object) }
+        requires within { s < length self.now.object }
+        ensures { result ≡ is_minor_scan_in self.now s }
+    {
+        let old = self.age_low.get(s) && self.age_high.get(s) && !self.guard.get(s);
+        let black = self.marked.get(s) && self.black.get(s);
+        self.is_present(s) && black && (old && self.remembered.get(s) || self.kept.get(s))
+    }
+
+    // The first slot from `s` on that a minor marking scans from its start.
+    fn first_minor_scan(&self, s: u32) -> Option<u32>
+        requires { AreWide self.now (length self.now.object) }
+        ensures { MatchOption result (HasNoneFrom (is_minor_scan_in self.now) s) (IsNext (is_minor_scan_in self.now) s) }
+    {
+        let mut at = s;
+        'slots: while at < self.object.len() {
+            if self.is_minor_scan(at) {
+                return Some(at);
+            }
+            at += 1;
+        }
+        None
+    }
+
     // Whether the slot holds an object that isn't gone.
     pub fn is_present(&self, s: u32) -> bool
         requires wide { AreWide self.now (length self.now.object) }
@@ -324,6 +437,7 @@ impl Marks {
         match sought {
             Sought::Present => self.first_present(s),
             Sought::Gone => self.gone.first_set_from(s),
+            Sought::MinorScan => self.first_minor_scan(s),
         }
     }
 }

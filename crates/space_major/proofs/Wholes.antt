@@ -1,21 +1,21 @@
 -- What a whole marking comes to.
-use Rattle.std.proofs.Common.{◌≡◌, ◌≢◌, ◌↔◌, inl, inr, ⊎_elim, ℕ, false, List, [], ◌++◌, length, nat_eq, sym, ap, ◌∙◌}
+use Rattle.std.proofs.Common.{◌≡◌, ◌≢◌, ◌↔◌, inl, inr, ⊎_elim, ℕ, true, false, List, [], ◌++◌, length, nat_eq, sym, ap, ◌∙◌}
+use Rattle.std.specs.Set.{is_member}
 use Rattle.std.proofs.lemmas.List.Folds.{list_any-append}
 use Rattle.std.proofs.lemmas.Bool.{or_cases, or_left, or_right}
 use Rattle.space_model.specs.Counts.{CountIs}
 use Rattle.space_model.proofs.Reaching.{IsReached-start, IsReached-mono}
 use Rattle.space_heap.specs.declared.colour.Colour.TheVariants.{Grey, Black}
-use Rattle.space_heap.specs.Slots.{ObjectView}
 use Rattle.space_heap.specs.HeapView.{HeapView}
-use Rattle.space_heap.specs.Objects.{object_of}
 use Rattle.space_heap.specs.Marking.{colour_of, unmarked}
-use Rattle.space_heap.proofs.MarkingLaws.{is_object-unmarked, object_of-unmarked, colour_of-unmarked}
+use Rattle.space_heap.proofs.MarkingLaws.{is_object-unmarked, colour_of-unmarked}
 use Rattle.space_tracing.specs.Scans.{visited_all}
 use Rattle.space_tracing.specs.Graph.{IsChild, IsStart, IsLive}
-use Rattle.space_tracing.specs.Marking.{IsMarked, Marking, SameNotes, Marks}
+use Rattle.space_tracing.specs.Marking.{IsMarked, Marking, Marks, Notes, IsNoted, is_read}
 use Rattle.space_tracing.proofs.Same.{SameGraph-unmarked, is_child-same}
 use Rattle.space_tracing.proofs.Steps.{From}
-use Rattle.space_tracing.proofs.Bundles.{marks_none, marks_words}
+use Rattle.space_tracing.proofs.Bundles.{marks_none, marks_words, colours}
+use Rattle.space_tracing.proofs.Noted.{noted_by}
 use Rattle.space_tracing.proofs.Ends.{marked_exactly, count_done, count_same}
 
 -- the start of a whole marking
@@ -58,9 +58,19 @@ count_whole old new roots stack done p none =
     (λ n r. ((marked_whole old new roots stack done p none n).1 r, (λ b. let w = colour_of-unmarked old n in cc)))
     (count_done (unmarked old) new (roots ++ stack) [] done p none)
 
--- no object is remembered or kept
-pub not_remembered_whole : (old new : HeapView) → SameNotes (unmarked old) new → (n : ℕ) → (object_of new n).remembered ≡ false
-not_remembered_whole old new s n = s.remembered n ∙ ap (λ (o : ObjectView). o.remembered) (object_of-unmarked old n)
+-- what was scanned is what is live
+done_whole : (old new : HeapView) (roots stack done : List ℕ) → Marking (unmarked old) new (roots ++ stack) [] done
+    → ((n : ℕ) → colour_of new n ≢ Grey) → (n : ℕ) → (is_member nat_eq done n ≡ true) ↔ IsLive old roots stack n
+done_whole old new roots stack done p none n =
+    let e = marked_whole old new roots stack done p none n in (
+      (λ d. e.0 (let b = p.done_black n d in λ w. cc)),
+      (λ r. ⊎_elim
+          (λ w. absurd (e.1 r w))
+          (λ q. ⊎_elim (λ g. absurd (none n g)) (λ b. p.black_done n b (λ o. let w = colour_of-unmarked old n in cc)) q)
+          (colours (colour_of new n))),
+    )
 
-pub not_kept_whole : (old new : HeapView) → SameNotes (unmarked old) new → (n : ℕ) → (object_of new n).kept ≡ false
-not_kept_whole old new s n = s.kept n ∙ ap (λ (o : ObjectView). o.kept) (object_of-unmarked old n)
+pub noted_whole : (old new : HeapView) (roots stack done : List ℕ) → Marking (unmarked old) new (roots ++ stack) [] done
+    → ((n : ℕ) → colour_of new n ≢ Grey) → Notes (unmarked old) new [] done → IsNoted (unmarked old) new (IsLive old roots stack)
+noted_whole old new roots stack done p none h = noted_by (unmarked old) new (λ n. is_read [] done n ≡ true) (IsLive old roots stack)
+    (λ n r. (done_whole old new roots stack done p none n).0 r) (λ n q. (done_whole old new roots stack done p none n).1 q) h

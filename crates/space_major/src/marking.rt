@@ -1,11 +1,10 @@
 // A whole marking.
-ghost use Rattle.std.specs.Prelude.{◌≡◌, ◌≢◌, ◌↔◌, ◌<◌, ◌+◌, ◌^◌, ℕ, false, []};
+ghost use Rattle.std.specs.Prelude.{◌≡◌, ◌≢◌, ◌↔◌, ◌<◌, ◌+◌, ◌^◌, ℕ, []};
 ghost use Rattle.space_model.specs.Counts.{CountIs};
 ghost use Rattle.space_roots.specs.WordRoots.{root_words};
-ghost use Rattle.space_heap.specs.Objects.{object_of};
-ghost use Rattle.space_heap.specs.Marking.{colour_of};
+ghost use Rattle.space_heap.specs.Marking.{colour_of, unmarked};
 ghost use Rattle.space_tracing.specs.Graph.{IsLive, SameGraph};
-ghost use Rattle.space_tracing.specs.Marking.{IsMarked};
+ghost use Rattle.space_tracing.specs.Marking.{IsMarked, IsNoted};
 
 use space_heap::{Colour, Heap};
 use space_model::{Ledger, Steps};
@@ -24,8 +23,7 @@ pub fn whole<L: Ledger>(heap: &mut Heap, roots: &Roots, stack: &Stack, steps: &m
     ensures ticks { steps.new ≡ steps.old + result }
     ensures no_list { heap.new.grey ≡ [] }
     ensures none_grey { (n : ℕ) → colour_of heap.new n ≢ Colour.Grey }
-    ensures not_remembered { (n : ℕ) → (object_of heap.new n).remembered ≡ false }
-    ensures not_kept { (n : ℕ) → (object_of heap.new n).kept ≡ false }
+    ensures noted { IsNoted (unmarked heap.old) heap.new (IsLive heap.old (root_words roots.now) stack.now) }
     ensures same { SameGraph heap.old heap.new }
 {
     heap.unmark();

@@ -1,3 +1,3 @@
-pub mod Verdicts
+pub mod VerdictLaws
 pub mod FirstPages
 pub mod GoneWaits

@@ -5,7 +5,7 @@ use Rattle.space_heap.specs.HeapView.{HeapView}
 use Rattle.space_heap.specs.Objects.{is_object, object_of}
 use Rattle.space_heap.specs.Marking.{colour_of}
 use Rattle.space_heap.specs.Walks.{IsNextGone}
-use Rattle.space_sweep.specs.declared.gone.Dead.{Dead}
+use Rattle.space_sweep.specs.declared.verdicts.Dead.{Dead}
 
 -- the address names an object that isn't marked
 abbrev pub IsUnmarked : HeapView → ℕ → Type 0

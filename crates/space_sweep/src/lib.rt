@@ -1,8 +1,8 @@
 //! Verdicts, and sweeps page by page.
 #![tactic(auto)]
 
-mod gone;
 mod pages;
+mod verdicts;
 
-pub use gone::{Dead, next_gone, verdict};
 pub use pages::{first_unswept, next_unswept, sweep, sweep_first, unswept};
+pub use verdicts::{Dead, next_gone, verdict};

@@ -96,7 +96,7 @@ pub fn sweep(heap: &mut Heap) -> u64
 #[cfg(test)]
 mod tests {
     use super::*;
-    use crate::gone::{Dead, next_gone, verdict};
+    use crate::verdicts::{Dead, next_gone, verdict};
     use space_heap::Colour;
     use space_model::{Guard, Kind, Style};
     use std::test::Fail;
@@ -123,7 +123,7 @@ mod tests {
     }
 
     // How many a verdict took, where nothing is grey and none is gone.
-    #[tactic(auto, using(crate::proofs::Verdicts::none_gone_from))]
+    #[tactic(auto, using(crate::proofs::VerdictLaws::none_gone_from))]
     fn take(heap: &mut Heap, kind: Kind) -> Option<u64> {
         if heap.minor_verdicts() >= 1 << 40 || heap.other_verdicts() >= 1 << 40 {
             return None;

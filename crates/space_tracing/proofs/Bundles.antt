@@ -2,6 +2,8 @@
 use Rattle.std.proofs.Common.{◌≡◌, ◌≢◌, ◌⊎◌, inl, inr, ℕ, ◌<◌, ◌≤◌, ◌+◌, true, false, List, [], ◌∷◌, ◌++◌, nat_eq, length, refl, sym, ◌∙◌, arith, subst, append_assoc}
 use Rattle.std.specs.Set.{is_member}
 use Rattle.std.proofs.lemmas.List.{length-append, append-nil}
+use Rattle.std.proofs.lemmas.Bool.{false_from_ne_true, or_from}
+use Rattle.space_heap.proofs.NumberLists.{is_member-push}
 use Rattle.space_heap.specs.declared.colour.Colour.{Colour}
 use Rattle.space_heap.specs.declared.colour.Colour.TheVariants.{White, Grey, Black}
 use Rattle.space_heap.specs.HeapView.{HeapView}
@@ -11,20 +13,21 @@ use Rattle.space_heap.proofs.Coherence.{occupied_from_colour}
 use Rattle.space_tracing.specs.Scans.{visited_all, read_object, scanned}
 use Rattle.space_tracing.specs.Graph.{IsChild}
 use Rattle.space_tracing.specs.Marking.{IsMarked, Marking, Marks, GoesOn}
-use Rattle.space_tracing.proofs.Same.{SameGraph-refl, SameGraph-then, SameNotes-refl, SameNotes-then}
+use Rattle.space_tracing.proofs.Same.{SameGraph-refl, SameGraph-then}
 use Rattle.space_tracing.proofs.Visits.{visits_all}
 use Rattle.space_tracing.proofs.Scans.{scanned_first, scanned_again}
+use Rattle.space_tracing.proofs.Noted.{notes_none, notes_words, notes_scan}
 use Rattle.space_tracing.proofs.Steps.{marking_none, marking_words, marking_scan, marking_again}
 
 pub marks_none : (v : HeapView) → Marks v v [] [] []
-marks_none v = record { same = SameGraph-refl v; notes = SameNotes-refl v; marking = marking_none v }
+marks_none v = record { same = SameGraph-refl v; notes = notes_none v; marking = marking_none v }
 
 pub marks_words : (old v : HeapView) (words more again done : List ℕ) → Marks old v words again done → Marks old (visited_all v more) (words ++ more) again done
 marks_words old v words more again done p =
     let r = visits_all v more in
     record {
       same = SameGraph-then old v _ p.same r.same;
-      notes = SameNotes-then old v _ p.notes r.notes;
+      notes = notes_words old v _ more again done p.notes r;
       marking = marking_words old v _ words more again done p.same p.marking r;
     }
 
@@ -32,9 +35,12 @@ pub marks_scan : (old v : HeapView) (words again done : List ℕ) (a : ℕ) → 
     → Marks old (scanned v a) words again (done ++ a ∷ [])
 marks_scan old v words again done a g p =
     let s = scanned_first v a g in
+    let not_done : is_member nat_eq done a ≡ false = false_from_ne_true _ (λ m. let b = p.marking.done_black a m in cc) in
+    let not_again : is_member nat_eq again a ≡ false = false_from_ne_true _ (λ m. let b = p.marking.black_kept a (p.marking.again_black a m) in cc) in
     record {
       same = SameGraph-then old v _ p.same s.same;
-      notes = SameNotes-then old v _ p.notes s.notes;
+      notes = notes_scan old v _ again done again (done ++ a ∷ []) a p.same p.notes (or_from _ _ not_again not_done)
+          (λ n. grind (arith, is_member-push done a n)) s;
       marking = marking_scan old v _ words again done a p.same p.marking g s;
     }
 
@@ -42,9 +48,11 @@ pub marks_again : (old v : HeapView) (words again done : List ℕ) (a : ℕ) →
     → Marks old v words again done → Marks old (read_object v a) words (again ++ a ∷ []) done
 marks_again old v words again done a b fresh p =
     let s = scanned_again v a (p.marking.black_kept a b) in
+    let not_done : is_member nat_eq done a ≡ false = false_from_ne_true _ (λ m. p.marking.done_new a m b) in
     record {
       same = SameGraph-then old v _ p.same s.same;
-      notes = SameNotes-then old v _ p.notes s.notes;
+      notes = notes_scan old v _ again done (again ++ a ∷ []) done a p.same p.notes (or_from _ _ fresh not_done)
+          (λ n. grind (arith, is_member-push again a n)) s;
       marking = marking_again old v _ words again done a p.same p.marking b fresh s;
     }
 

@@ -14,8 +14,8 @@ use Rattle.space_heap.proofs.ObjectLaws.{occupied_from_object}
 use Rattle.space_heap.proofs.MarkingLaws.{White-from_is_white, colour_of-recoloured_same, colour_of-recoloured_other}
 use Rattle.space_tracing.specs.Scans.{visited_all}
 use Rattle.space_tracing.specs.Graph.{SameGraph}
-use Rattle.space_tracing.specs.Marking.{IsMarked, SameNotes}
-use Rattle.space_tracing.proofs.Same.{SameGraph-refl, SameGraph-then, SameGraph-recoloured, SameNotes-refl, SameNotes-then, SameNotes-recoloured, is_object-same}
+use Rattle.space_tracing.specs.Marking.{IsMarked}
+use Rattle.space_tracing.proofs.Same.{SameNotes, SameGraph-refl, SameGraph-then, SameGraph-recoloured, SameNotes-refl, SameNotes-then, SameNotes-recoloured, is_object-same}
 
 marked_from_not : (c : Colour) → is_white c ≡ false → c ≢ White
 marked_from_not White e = λ w. cc
@@ -50,7 +50,7 @@ visits_skipped v w e = record {
   marks = λ a p m. marked_from_not (colour_of v a) (grind (arith, nat_tests));
 }
 
-visits_word : (v : HeapView) (w : ℕ) → Visits v (w ∷ []) (visited v w)
+pub visits_word : (v : HeapView) (w : ℕ) → Visits v (w ∷ []) (visited v w)
 visits_word v w =
     let b : Bool = is_object v w && is_white (colour_of v w) in
     ⊎_elim

@@ -4,5 +4,5 @@
 mod scanning;
 mod visiting;
 
-pub use scanning::{drain, scan};
+pub use scanning::{drain, scan, scan_again};
 pub use visiting::{visit_all, visit_roots};

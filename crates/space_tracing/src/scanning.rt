@@ -1,14 +1,99 @@
-// Scans of grey objects.
+// Scans of grey objects, and of black ones again.
 ghost use Rattle.std.specs.Prelude.{◌≡◌, ◌≢◌, ◌<◌, ◌+◌, ◌^◌, ℕ, true, []};
+ghost use Rattle.space_model.specs.Ages.{is_protected_guard};
 ghost use Rattle.space_heap.specs.Objects.{is_occupied};
 ghost use Rattle.space_heap.specs.Marking.{colour_of, IsLastGrey};
-ghost use Rattle.space_tracing.specs.Scans.{scanned};
+ghost use Rattle.space_heap.specs.Generations.{remembered_as};
+ghost use Rattle.space_tracing.specs.Scans.{fields_of, has_young_child, is_young_word, kept_by_word, visited_by_aged, visited_all, visited_all_by_aged, read_object, scanned};
 ghost use Rattle.space_tracing.specs.Marking.{GoesOn};
 
 use space_heap::{Colour, Heap};
-use space_model::{Ledger, Steps};
+use space_model::{Guard, Ledger, Steps};
 
-/// Scans the object that became grey last: it is black, and its fields were visited in their order, in one step.
+// Whether stores into an object with this guard go through the write barrier.
+fn is_protected(guard: Guard) -> bool
+    ensures { result ≡ is_protected_guard guard }
+{
+    match guard {
+        Guard::Protected => true,
+        Guard::Unprotected => false,
+    }
+}
+
+// Whether the word names a protected object of age 0 or 1.
+#[tactic(auto, using(crate::proofs::Inside::naming))]
+fn is_young(heap: &Heap, word: u64) -> bool
+    ensures { result ≡ is_young_word heap.now word }
+{
+    heap.is_object(word) && is_protected(heap.guard(word)) && heap.age(word) < 2
+}
+
+// An unprotected object that the word names is kept.
+#[tactic(auto, using(crate::proofs::Inside::naming))]
+fn keep_if_unprotected(heap: &mut Heap, word: u64)
+    ensures { heap.new ≡ kept_by_word heap.old word }
+{
+    if heap.is_object(word) && !is_protected(heap.guard(word)) {
+        heap.keep(word);
+    }
+}
+
+// Visits what a field of an object of age 2 or more holds: it is kept where it is an unprotected object.
+fn visit_by_aged(heap: &mut Heap, child: u64)
+    ensures { heap.new ≡ visited_by_aged heap.old child }
+{
+    heap.grey_if_white(child);
+    keep_if_unprotected(heap, child);
+}
+
+// Visits the fields of an object in their order, in one step.
+fn visit_fields<L: Ledger>(heap: &mut Heap, address: u64, steps: &mut Steps<L>)
+    requires object { is_occupied heap.old address ≡ true }
+    requires ticks { steps.old + 1 < 2 ^ 64 }
+    ensures visited { heap.new ≡ visited_all heap.old (fields_of heap.old address) }
+    ensures ticks { steps.new ≡ steps.old + 1 }
+{
+    let mut fields = heap.read_fields(address, steps);
+    'fields: while let Some(word) = heap.next_field(&mut fields) {
+        heap.grey_if_white(word);
+    }
+}
+
+// Visits the fields of an object of age 2 or more in their order, in one step: each unprotected child is kept, and the object
+// is remembered exactly where it has a protected child of age 0 or 1.
+fn visit_fields_of_aged<L: Ledger>(heap: &mut Heap, address: u64, steps: &mut Steps<L>)
+    requires object { is_occupied heap.old address ≡ true }
+    requires ticks { steps.old + 1 < 2 ^ 64 }
+    ensures visited { heap.new ≡ remembered_as (visited_all_by_aged heap.old (fields_of heap.old address)) address (has_young_child heap.old address) }
+    ensures ticks { steps.new ≡ steps.old + 1 }
+{
+    let mut young = false;
+    let mut fields = heap.read_fields(address, steps);
+    'fields: while let Some(word) = heap.next_field(&mut fields) {
+        young = is_young(heap, word) | young;
+        visit_by_aged(heap, word);
+    }
+    heap.remember(address, young);
+}
+
+/// Scans an object again that is black: its fields were visited in their order, in one step. Where it has age 2 or more it is
+/// remembered exactly where it has a protected child of age 0 or 1, and its unprotected children are kept (CRuby 3.3).
+pub fn scan_again<L: Ledger>(heap: &mut Heap, address: u64, steps: &mut Steps<L>)
+    requires object { is_occupied heap.old address ≡ true }
+    requires ticks { steps.old + 1 < 2 ^ 64 }
+    ensures read { heap.new ≡ read_object heap.old address }
+    ensures ticks { steps.new ≡ steps.old + 1 }
+{
+    if heap.age(address) >= 2 {
+        visit_fields_of_aged(heap, address, steps);
+    } else {
+        visit_fields(heap, address, steps);
+    }
+}
+
+/// Scans the object that became grey last: it is black, and its fields were visited in their order, in one step. Where it has
+/// age 2 or more it is remembered exactly where it has a protected child of age 0 or 1, and its unprotected children are kept
+/// (CRuby 3.3).
 pub fn scan<L: Ledger>(heap: &mut Heap, address: u64, steps: &mut Steps<L>)
     requires object { is_occupied heap.old address ≡ true }
     requires last { IsLastGrey heap.old address }
@@ -17,16 +102,13 @@ pub fn scan<L: Ledger>(heap: &mut Heap, address: u64, steps: &mut Steps<L>)
     ensures ticks { steps.new ≡ steps.old + 1 }
 {
     heap.blacken(address);
-    let mut fields = heap.read_fields(address, steps);
-    'fields: while let Some(word) = heap.next_field(&mut fields) {
-        heap.grey_if_white(word);
-    }
+    scan_again(heap, address, steps);
 }
 
 /// Scans until nothing is grey, always the object that became grey last (this project's own). The answer is the number of
 /// scans, each in one step.
 pub fn drain<L: Ledger>(heap: &mut Heap, steps: &mut Steps<L>) -> u64
-    requires { steps.old < 2 ^ 62 }
+    requires { steps.old < 2 ^ 63 }
     ensures goes_on { GoesOn heap.old heap.new result }
     ensures no_list { heap.new.grey ≡ [] }
     ensures none_grey { (n : ℕ) → colour_of heap.new n ≢ Colour.Grey }

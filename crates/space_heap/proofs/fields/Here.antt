@@ -22,7 +22,7 @@ use Rattle.space_heap.proofs.ObjectLaws.{occupied_from_object}
 use Rattle.space_heap.proofs.MarkingLaws.{White-from_is_white}
 use Rattle.space_heap.proofs.fields.Readers as readers
 
-and_same : (x y u w : Bool) → x ≡ u → (x ≡ true → y ≡ w) → (x && y) ≡ (u && w)
+pub and_same : (x y u w : Bool) → x ≡ u → (x ≡ true → y ≡ w) → (x && y) ≡ (u && w)
 and_same true y true w same part = part refl
 and_same true y false w same part = absurd (true≢false same)
 and_same false y true w same part = absurd (true≢false (sym same))

@@ -28,7 +28,7 @@ colour_by White = refl
 colour_by Grey = refl
 colour_by Black = refl
 
-slot_stays : (v : PoolsView) (page slot : ℕ) → SlotChanged v v page slot (found_at v page slot)
+pub slot_stays : (v : PoolsView) (page slot : ℕ) → SlotChanged v v page slot (found_at v page slot)
 slot_stays v page slot = record {
   limit = refl;
   count = refl;

@@ -1,5 +1,5 @@
 -- The heap after a verdict, and in another phase.
-use Rattle.std.proofs.Common.{◌≡◌, ℕ, Bool, true, false, not, ◌&&◌, List, [], ◌∷◌, length, map, refl, sym, ap, ◌∙◌, subst, nat_eq, Option, None, Some}
+use Rattle.std.proofs.Common.{◌≡◌, ℕ, Bool, true, false, not, ◌&&◌, List, [], ◌∷◌, length, map, refl, sym, ap, ◌∙◌, subst, nat_eq, if◌then◌else◌, Option, None, Some}
 use Rattle.std.specs.Prelude.{is_some}
 use Rattle.std.specs.List.{range_with_len, filter}
 use Rattle.std.specs.Set.{is_member}
@@ -14,10 +14,11 @@ use Rattle.space_heap.specs.declared.marks.Marks.{Marks}
 use Rattle.space_heap.specs.Slots.{map_slot}
 use Rattle.space_heap.specs.HeapView.{HeapView, pool_at as view_pool, slot_at, is_slot, map_page}
 use Rattle.space_heap.specs.Objects.{object_of, is_object}
-use Rattle.space_heap.specs.planes.MarkPlanes.{marks_at, AreWide, slot_from, used_from, traits_from, colour_from}
+use Rattle.space_heap.specs.planes.MarkPlanes.{marks_at, AreWide, slot_from, used_from, traits_from, colour_from, guard_from, age_from}
 use Rattle.space_heap.specs.Marking.{IsCoherent}
+use Rattle.space_heap.specs.Generations.{raised_age}
 use Rattle.space_heap.specs.Sweeping.{is_white, settled_object, pooled_pages, phase_with, minors_after, others_after, settled}
-use Rattle.space_heap.specs.planes.SweptPlanes.{settled_marks, waiting_page, HoldsPages, HasNoPooled}
+use Rattle.space_heap.specs.planes.SweptPlanes.{IsSettled, HoldsPages, HasNoPooled}
 use Rattle.space_heap.specs.Inside.{slot_in, page_from, page_in, pages_from, unswept_in, Rest, view_with, FitsSlot, AreMarksOf, AreAllMarks}
 use Rattle.space_heap.proofs.fields.Views.{length-pages_from, pool_read}
 use Rattle.space_heap.proofs.fields.Unswept.{same_filter}
@@ -41,57 +42,76 @@ white_not true true = refl
 white_not true false = refl
 white_not false black = refl
 
+by_colour : (marked black : Bool) (stays raised : ℕ) → (if marked then raised else stays) ≡ (if white_by marked black then stays else raised)
+by_colour true true stays raised = refl
+by_colour true false stays raised = refl
+by_colour false black stays raised = refl
+
 -- a slot with the planes of a verdict
-slot_settled : (found : Option (List ℕ)) (m : Marks) (s n : ℕ) → AreWide m n → FitsSlot found m s
-    → slot_from found (settled_marks m) s ≡ map_slot settled_object (slot_from found m s)
-slot_settled None m s n wide f = refl
-slot_settled (Some words) m s n wide f = by_moved (bit m.moved s) f.object
+slot_settled : (found : Option (List ℕ)) (m n : Marks) (s k : ℕ) → AreWide m k → FitsSlot found m s → IsSettled m n
+    → slot_from found n s ≡ map_slot settled_object (slot_from found m s)
+slot_settled None m n s k wide f h = refl
+slot_settled (Some words) m n s k wide f h = ap (λ n. slot_from (Some words) n s) h.others ∙ by_moved (bit m.moved s) f.object
   where
-    gone_is : bit m.object s ≡ true → bit (set_in_first_only m.object m.marked) s ≡ is_white (colour_from (bit m.marked s) (bit m.black s))
+    gone_is : bit m.object s ≡ true → bit (set_in_first_only m.object m.marked) s ≡ white_by (bit m.marked s) (bit m.black s)
     gone_is object =
         bit-set_in_first_only m.object m.marked s (wide.object ∙ sym wide.marked)
         ∙ ap (λ b. b && not (bit m.marked s)) object
         ∙ sym (white_not (bit m.marked s) (bit m.black s))
 
+    age_is : age_from (bit n.age_low s) (bit n.age_high s) ≡ (if white_by (bit m.marked s) (bit m.black s)
+        then age_from (bit m.age_low s) (bit m.age_high s)
+        else raised_age (guard_from (bit m.guard s)) (age_from (bit m.age_low s) (bit m.age_high s)))
+    age_is = h.ages s ∙ by_colour (bit m.marked s) (bit m.black s) _ _
+
     by_moved : (moved : Bool) → bit m.object s ≡ (true && not moved)
-        → used_from words moved (traits_from (settled_marks m) s) ≡ map_slot settled_object (used_from words moved (traits_from m s))
+        → used_from words moved (record (traits_from m s) {
+          age = age_from (bit n.age_low s) (bit n.age_high s);
+          gone = bit (set_in_first_only m.object m.marked) s;
+        }) ≡ map_slot settled_object (used_from words moved (traits_from m s))
     by_moved true object = refl
-    by_moved false object = ap (λ gone. used_from words false (record (traits_from m s) { gone = gone })) (gone_is object)
+    by_moved false object = λ i. used_from words false (record (traits_from m s) { age = age_is i; gone = gone_is object i })
 
-page_settled : (p : PageSlots) (m : Marks) → AreMarksOf p m → page_from p (settled_marks m) ≡ map_page settled_object (page_from p m)
-page_settled p m h = ap (λ slots. record { pool = p.pool; slots = slots }) (map_each (slot_in p m) (map_slot settled_object) (slot_in p (settled_marks m))
-    (λ s. slot_settled (found_in p s) m s (length p.slots) h.wide (h.each s)) (range_with_len 0 (length p.slots)))
+page_settled : (p : PageSlots) (m n : Marks) → AreMarksOf p m → IsSettled m n → page_from p n ≡ map_page settled_object (page_from p m)
+page_settled p m n h i = ap (λ slots. record { pool = p.pool; slots = slots }) (map_each (slot_in p m) (map_slot settled_object) (slot_in p n)
+    (λ s. slot_settled (found_in p s) m n s (length p.slots) h.wide (h.each s) i) (range_with_len 0 (length p.slots)))
 
-page_marks_settled : (p : PageSlots) (m : Marks) → AreMarksOf p m → AreMarksOf p (settled_marks m)
-page_marks_settled p m h = record {
-  wide =
-      let w = h.wide in
-      record {
-        object = w.object;
-        moved = w.moved;
-        guard = w.guard;
-        marked = w.marked;
-        black = w.black;
-        age_low = w.age_low;
-        age_high = w.age_high;
-        remembered = w.remembered;
-        kept = w.kept;
-        pinned = w.pinned;
-        gone = length-set_in_first_only m.object m.marked (w.object ∙ sym w.marked) ∙ w.object;
-      };
-  each = λ s.
-      let f = h.each s in
-      record {
-        object = f.object;
-        moved = f.moved;
-        words = f.words;
-        gone = λ e. first_of (bit m.object s) (not (bit m.marked s)) (sym (bit-set_in_first_only m.object m.marked s (h.wide.object ∙ sym h.wide.marked)) ∙ e);
-      };
-}
+abbrev settled_marks : Marks → Marks → Marks
+settled_marks m n = record m { age_low = n.age_low; age_high = n.age_high; gone = set_in_first_only m.object m.marked }
+
+page_marks_settled : (p : PageSlots) (m n : Marks) → AreMarksOf p m → IsSettled m n → AreMarksOf p n
+page_marks_settled p m n h i = subst (AreMarksOf p) (sym i.others) settles
   where
     first_of : (a b : Bool) → (a && b) ≡ true → a ≡ true
     first_of true b e = refl
     first_of false b e = e
+
+    settles : AreMarksOf p (settled_marks m n)
+    settles = record {
+      wide =
+          let w = h.wide in
+          record {
+            object = w.object;
+            moved = w.moved;
+            guard = w.guard;
+            marked = w.marked;
+            black = w.black;
+            age_low = i.low ∙ w.age_low;
+            age_high = i.high ∙ w.age_high;
+            remembered = w.remembered;
+            kept = w.kept;
+            pinned = w.pinned;
+            gone = length-set_in_first_only m.object m.marked (w.object ∙ sym w.marked) ∙ w.object;
+          };
+      each = λ s.
+          let f = h.each s in
+          record {
+            object = f.object;
+            moved = f.moved;
+            words = f.words;
+            gone = λ e. first_of (bit m.object s) (not (bit m.marked s)) (sym (bit-set_in_first_only m.object m.marked s (h.wide.object ∙ sym h.wide.marked)) ∙ e);
+          };
+    }
 
 not_none : (xs : List ℕ) (k : ℕ) → is_member nat_eq xs k ≡ true → Sweeping ≡ phase_with xs
 not_none [] k m = cc
@@ -103,20 +123,19 @@ none_left test [] out = refl
 none_left test (x ∷ xs) out = cond-false (test x) (x ∷ filter test xs) (filter test xs) (out x) ∙ none_left test xs out
 
 module _ (v w : PoolsView) (ms ns : List Marks) (held : HoldsPages v w) (long : length ns ≡ length ms)
-    (each : (k : ℕ) → marks_at ns k ≡ settled_marks (marks_at ms k)) (all : AreAllMarks v ms) where
+    (each : (k : ℕ) → IsSettled (marks_at ms k) (marks_at ns k)) (all : AreAllMarks v ms) where
   pub settled_all : AreAllMarks w ns
   settled_all = record {
     all = long ∙ all.all ∙ sym held.count;
     of_page = λ k. subst (λ p. AreMarksOf p (marks_at ns k)) (sym (held.each k))
-        (subst (AreMarksOf (waiting_page (page_at v k))) (sym (each k)) (let h = page_marks_settled (page_at v k) (marks_at ms k) (all.of_page k) in
-        record { wide = h.wide; each = h.each }));
+        (let h = page_marks_settled (page_at v k) (marks_at ms k) (marks_at ns k) (all.of_page k) (each k) in record { wide = h.wide; each = h.each });
   }
 
   settled_pages : pages_from w ns ≡ map (map_page settled_object) (pages_from v ms)
   settled_pages =
       map_each (page_in v ms) (map_page settled_object) (page_in w ns)
-      (λ k. ap (λ p. page_from p (marks_at ns k)) (held.each k) ∙ ap (page_from (waiting_page (page_at v k))) (each k)
-      ∙ page_settled (page_at v k) (marks_at ms k) (all.of_page k))
+      (λ k. ap (λ p. page_from p (marks_at ns k)) (held.each k)
+      ∙ page_settled (page_at v k) (marks_at ms k) (marks_at ns k) (all.of_page k) (each k))
       (range_with_len 0 (length w.pages))
       ∙ ap (λ n. map (map_page settled_object) (map (page_in v ms) (range_with_len 0 n))) held.count
 

@@ -1,5 +1,5 @@
 -- What the planes of a page tell of a slot.
-use Rattle.std.specs.Prelude.{◌≡◌, ℕ, ◌+◌, Bool, true, false, not, ◌&&◌, List, length, replicate, Option, None, Some, slice_index_or, slice_set, if◌then◌else◌}
+use Rattle.std.specs.Prelude.{◌≡◌, ℕ, ◌+◌, Bool, true, false, not, ◌&&◌, ◌||◌, List, length, replicate, Option, None, Some, slice_index_or, slice_set, if◌then◌else◌}
 use Rattle.space_model.specs.declared.object.Guard.{Guard}
 use Rattle.space_model.specs.declared.object.Guard.TheVariants.{Protected, Unprotected}
 use Rattle.space_planes.specs.Planes.{bit}
@@ -120,3 +120,12 @@ slot_from (Some words) m s = used_from words (bit m.moved s) (traits_from m s)
 -- whether the slot holds an object that isn't gone
 abbrev pub is_present : Marks → ℕ → Bool
 is_present m s = bit m.object s && not (bit m.gone s)
+
+-- whether the object of the slot is old: it is protected, and has age 3
+abbrev pub is_old_in : Marks → ℕ → Bool
+is_old_in m s = (bit m.age_low s && bit m.age_high s) && not (bit m.guard s)
+
+-- whether a minor marking scans the object of the slot again: it is present and black, and kept, or remembered, protected and of age 3
+abbrev pub is_minor_scan_in : Marks → ℕ → Bool
+is_minor_scan_in m s =
+    is_present m s && ((bit m.marked s && bit m.black s) && ((is_old_in m s && bit m.remembered s) || bit m.kept s))

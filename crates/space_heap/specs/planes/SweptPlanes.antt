@@ -1,16 +1,34 @@
 -- The planes and the pools after a verdict, and after the sweep of a page.
-use Rattle.std.specs.Prelude.{◌≡◌, ℕ, false, not, List, length, replicate, nat_eq, is_some, slice_set}
+use Rattle.std.specs.Prelude.{◌≡◌, ℕ, Bool, false, not, ◌&&◌, ◌||◌, List, length, replicate, nat_eq, is_some, slice_set, if◌then◌else◌}
 use Rattle.std.specs.List.{filter}
-use Rattle.space_planes.specs.Planes.{set_in_first_only}
+use Rattle.space_planes.specs.Planes.{bit, set_in_first_only}
 use Rattle.space_pools.specs.PageSlots.{PageSlots}
 use Rattle.space_pools.specs.PoolsView.{PoolsView, page_at, pool_at}
 use Rattle.space_heap.specs.declared.marks.Marks.{Marks}
+use Rattle.space_heap.specs.Generations.{raised_age}
+use Rattle.space_heap.specs.planes.MarkPlanes.{guard_from, age_from}
 use Rattle.space_heap.specs.Inside.{page_in, pages_from, unswept_in, AreAllMarks}
 use Rattle.space_heap.specs.Sweeping.{swept_page}
 
--- the planes after a verdict: the objects that aren't marked are gone
-abbrev pub settled_marks : Marks → Marks
-settled_marks m = record m { gone = set_in_first_only m.object m.marked }
+-- the age of a slot after a verdict, by whether it was marked, whether it is unprotected, and the two bits of its age
+abbrev pub settled_age : Bool → Bool → Bool → Bool → ℕ
+settled_age marked unprotected low high =
+    if marked then raised_age (guard_from unprotected) (age_from low high) else age_from low high
+
+-- the two bits of an age, 0 to 3, that was raised by one up to 3, or stayed
+abbrev pub raised_low : Bool → Bool → Bool → Bool
+raised_low raised low high = if raised then not low || high else low
+
+abbrev pub raised_high : Bool → Bool → Bool → Bool
+raised_high raised low high = (raised && low) || high
+
+-- n are the planes m after a verdict: the objects that aren't marked are gone, and the others are older
+pub record IsSettled (m n : Marks) : Type 0 where
+  pub low : length n.age_low ≡ length m.age_low
+  pub high : length n.age_high ≡ length m.age_high
+  pub ages : (s : ℕ) → age_from (bit n.age_low s) (bit n.age_high s) ≡ settled_age (bit m.marked s) (bit m.guard s) (bit m.age_low s) (bit m.age_high s)
+  -- the other planes
+  pub others : n ≡ record m { age_low = n.age_low; age_high = n.age_high; gone = set_in_first_only m.object m.marked }
 
 -- the planes after a sweep: the slots of the gone objects hold none any more
 abbrev pub swept_marks : Marks → Marks

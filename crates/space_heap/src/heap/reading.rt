@@ -50,6 +50,16 @@ impl Heap {
         }
     }
 
+    /// Whether the word names an object.
+    pub fn is_object(&self, word: u64) -> bool
+        ensures { result ≡ is_object self.now word }
+    {
+        match self.object_at(word) {
+            Some(_) => true,
+            None => false,
+        }
+    }
+
     // What the planes tell of the object at an address.
     fn traits(&self, address: u64) -> Traits
         requires { is_occupied self.now address ≡ true }

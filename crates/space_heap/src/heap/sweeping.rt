@@ -82,7 +82,7 @@ impl Heap {
 
     /// A verdict: each white object is gone, and each page with a pool waits for a sweep. The phase
     /// is that of sweeping, or nothing is under way where no page has a pool. The verdict is counted.
-    /// Ages, guards and all other marks stay as they are. That a verdict is on all pages, before the first
+    /// Each protected object that is left is one older, up to age 3 (CRuby 3.3). Guards and all other marks stay. That a verdict is on all pages, before the first
     /// sweep, is this project's own.
     pub fn settle(&mut self, kind: Kind)
         requires none_grey { self.old.grey ≡ [] }

@@ -6,7 +6,7 @@ use Rattle.space_tracing.specs.Scans.{visited_all}
 use Rattle.space_tracing.specs.Graph.{IsLive}
 use Rattle.space_tracing.specs.Marking.{Marks}
 use Rattle.space_tracing.proofs.Same.{SameGraph-then, SameGraph-unmarked}
-use Rattle.space_major.proofs.Wholes.{marks_opened, marked_whole, count_whole, not_remembered_whole, not_kept_whole}
+use Rattle.space_major.proofs.Wholes.{marks_opened, marked_whole, count_whole, noted_whole}
 use Rattle.space_major.proofs.marking.whole.Given as given
 use Rattle.space_major.proofs.marking.whole.Goals as goal
 
@@ -29,11 +29,9 @@ returns-clause-counted g c =
     subst (λ k. CountIs (IsLive c.args.heap.now (root_words c.args.roots.now) c.args.stack.now) k) (marks g c).2
     (count_whole c.args.heap.now c.drain.new.heap (root_words c.args.roots.now) c.args.stack.now (marks g c).0 (marks g c).1.marking c.drain.ensures.none_grey)
 
-pub returns-clause-not_remembered : goal.returns-clause-not_remembered
-returns-clause-not_remembered g c = not_remembered_whole c.args.heap.now c.drain.new.heap (marks g c).1.notes
-
-pub returns-clause-not_kept : goal.returns-clause-not_kept
-returns-clause-not_kept g c = not_kept_whole c.args.heap.now c.drain.new.heap (marks g c).1.notes
+pub returns-clause-noted : goal.returns-clause-noted
+returns-clause-noted g c = noted_whole c.args.heap.now c.drain.new.heap (root_words c.args.roots.now) c.args.stack.now (marks g c).0 (marks g c).1.marking
+    c.drain.ensures.none_grey (marks g c).1.notes
 
 pub returns-clause-same : goal.returns-clause-same
 returns-clause-same g c = SameGraph-then _ _ _ (SameGraph-unmarked c.args.heap.now) (marks g c).1.same

@@ -7,7 +7,8 @@ pub pages-init : goal.pages-init
 pages-init c = λ b there below. absurd (page_before c.args.from b c.saturating_sub-page.result (search rules) there below)
 
 pub returns-in-Some-clause-next : goal.returns-in-Some-clause-next
-returns-in-Some-clause-next c = next_found (is_sought c.args.sought c.args.self.now) c.args.from _ c.in-Some.address c.pages.invariant c.in-Some.ensures
+returns-in-Some-clause-next c =
+    (next_found (is_sought c.args.sought c.args.self.now) c.args.from _ c.in-Some.found.address c.pages.invariant c.in-Some.ensures.0, c.in-Some.ensures.1)
 
 pub returns-clause-next : goal.returns-clause-next
 returns-clause-next c = none_left c.args.self.now c.args.sought c.args.from c.pages.page c.pages.invariant (omega arith)

@@ -43,9 +43,9 @@ pub fn next_gone(heap: &Heap, from: u64) -> Option<Dead>
     ensures sound { IsSoundHeap heap.now }
 {
     match heap.next_gone(from) {
-        Some(address) => Some(Dead {
-            name: heap.name(address),
-            address,
+        Some(found) => Some(Dead {
+            name: found.name,
+            address: found.address,
         }),
         None => None,
     }

@@ -1,0 +1,2 @@
+pub mod FirstScanLaws
+pub mod MinorMarks

@@ -1,0 +1,6 @@
+//! Minor markings.
+#![tactic(auto)]
+
+mod marking;
+
+pub use marking::minor;
