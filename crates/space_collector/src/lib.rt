@@ -2,10 +2,6 @@
 //! the pages that wait.
 #![tactic(auto)]
 
-mod collecting;
-mod sweeping;
-mod telling;
+mod collection;
 
-pub use collecting::{Collected, collect};
-pub use sweeping::sweep_all;
-pub use telling::tell_gone;
+pub use collection::{Collected, collect, sweep_all, tell_gone};

@@ -12,7 +12,7 @@ ghost use Rattle.space_engine.specs.Views.{empty_view};
 mod collection_commands;
 mod new_command;
 mod object_commands;
-mod reading;
+mod operand_words;
 mod replies;
 mod root_commands;
 mod stack_commands;
@@ -104,7 +104,7 @@ impl Engine {
                 guard,
                 style,
             } => self.create(root, *fields, *guard, *style, sink, steps),
-            Command::Gc => self.collect(sink, steps),
+            Command::Gc => self.gc(sink, steps),
             _ => Ok(silent(self.reply(command, steps))),
         }
     }

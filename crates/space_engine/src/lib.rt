@@ -3,7 +3,7 @@
 
 mod counts;
 mod engine;
-mod operands;
+mod refusals;
 mod space;
 #[cfg(test)]
 mod tests;

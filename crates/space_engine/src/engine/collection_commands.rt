@@ -17,7 +17,7 @@ use space_model::{Command, Kind, Ledger, Reply, Steps};
 impl Engine {
     /// A whole collection: all that no root and no word of the stack leads to is gone, its lines are written, and every page
     /// is swept, also after a failed write.
-    pub fn collect_all<K: Sink, L: Ledger>(
+    pub fn collect_whole<K: Sink, L: Ledger>(
         &mut self,
         sink: &mut K,
         steps: &mut Steps<L>,
@@ -42,7 +42,7 @@ impl Engine {
     }
 
     /// Collects, and replies how many objects were scanned.
-    pub fn collect<K: Sink, L: Ledger>(
+    pub fn gc<K: Sink, L: Ledger>(
         &mut self,
         sink: &mut K,
         steps: &mut Steps<L>,
@@ -55,7 +55,7 @@ impl Engine {
         ensures turn { IsOneTurn self.old.heap self.new.heap }
         ensures steps { RisesByFewer steps.old steps.new }
     {
-        let Collected { scans, gone } = self.collect_all(sink, steps)?;
+        let Collected { scans, gone } = self.collect_whole(sink, steps)?;
         Ok(Answer {
             reply: Reply::Scanned { count: scans },
             gone,

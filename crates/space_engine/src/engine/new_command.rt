@@ -50,7 +50,7 @@ impl Engine {
     }
 
     // Allocates an object, and the root, whose place was made, holds it. An `Err` changes nothing.
-    fn add(
+    fn allocate_for_root(
         &mut self,
         root: &Ident,
         fields: u64,
@@ -73,7 +73,7 @@ impl Engine {
 
     // Allocates where there are as many pages as may be, so that a page takes no memory. The place of a new root is taken
     // away again where there is no room.
-    fn add_at_limit(
+    fn allocate_at_limit(
         &mut self,
         root: &Ident,
         is_new: bool,
@@ -88,7 +88,7 @@ impl Engine {
         ensures last { IsLastReply self.old self.new root.now is_new fields guard style result }
         ensures sound { IsSoundHeap self.old.heap }
     {
-        match self.add(root, fields, guard, style) {
+        match self.allocate_for_root(root, fields, guard, style) {
             Ok(made) => Reply::Made {
                 name: made.name,
                 address: made.address,
@@ -125,8 +125,11 @@ impl Engine {
         ensures turn { IsOneTurn self.old.heap self.new.heap }
         ensures steps { RisesByFewer steps.old steps.new }
     {
-        let collected = self.collect_all(sink, steps);
-        let reply = self.add_at_limit(root, is_new, fields, guard, style);
+        let collected = self.collect_whole(sink, steps);
+
+        // This comes also after a failed write: the command is done then too, so the state after it is the same whether or not
+        // its lines were written.
+        let reply = self.allocate_at_limit(root, is_new, fields, guard, style);
         let gone = collected?.gone;
         Ok(Answer { reply, gone })
     }
@@ -157,7 +160,7 @@ impl Engine {
             Ok(is_new) => is_new,
             Err(_) => return Ok(silent(Reply::NoMemory)),
         };
-        match self.add(root, fields, guard, style) {
+        match self.allocate_for_root(root, fields, guard, style) {
             Ok(made) => Ok(silent(Reply::Made {
                 name: made.name,
                 address: made.address,

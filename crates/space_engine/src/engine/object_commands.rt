@@ -14,7 +14,7 @@ ghost use Rattle.space_engine.specs.Views.{with_field};
 ghost use Rattle.space_engine.specs.Words.{written_words};
 
 use super::Engine;
-use crate::operands::{both, is_same};
+use crate::refusals::{both, is_same};
 use space_model::{Input, Operand, Refusal, Reply};
 
 impl Engine {

@@ -24,26 +24,30 @@ returns-in-Err-clause-done g c =
     rw (c.silent-in-Err.ensures.reply, c.silent-in-Err.ensures.gone, c.in-Err.ensures.err) (answered_silently a.self.now a.self.now _ _ _ _ _
     (λ s h. lacks_root a.root.now a.fields a.guard a.style a.self.now s h c.in-Some.ensures.1 c.in-Err.ensures.absent) (λ s h. refl))
 
-pub returns-in-Ok-add-clause-done : goal.returns-in-Ok-add-clause-done
-returns-in-Ok-add-clause-done g c =
+pub returns-in-Ok-allocate_for_root-clause-done : goal.returns-in-Ok-allocate_for_root-clause-done
+returns-in-Ok-allocate_for_root-clause-done g c =
     let a = c.args in
     let r = c.reserve_root.new.self in
-    let made = c.in-Ok-add.made in
+    let made = c.in-Ok-allocate_for_root.made in
     let same = heap_reserved a.self.now r a.root.now c.in-Ok.is_new c.in-Ok.ensures.ok in
-    let sound = subst IsSoundHeap same c.in-Ok-add.ensures.sound in
-    let allocated = allocated_at_once a.self.now r a.root.now c.in-Ok.is_new c.in-Ok.ensures.ok c.add.new.self a.fields a.guard a.style made.name made.address
-    c.in-Ok-add.ensures.allocated in
-    rw (c.silent-in-Ok-add.ensures.reply, c.silent-in-Ok-add.ensures.gone) (answered_silently a.self.now c.add.new.self _ _ _ _ _
-    (λ s h. made_at_once a.root.now a.fields a.guard a.style a.self.now c.add.new.self s h c.in-Some.ensures.1 sound made.name made.address allocated)
+    let sound = subst IsSoundHeap same c.in-Ok-allocate_for_root.ensures.sound in
+    let allocated = allocated_at_once a.self.now r a.root.now c.in-Ok.is_new c.in-Ok.ensures.ok c.allocate_for_root.new.self
+    a.fields a.guard a.style made.name made.address c.in-Ok-allocate_for_root.ensures.allocated in
+    rw (c.silent-in-Ok-allocate_for_root.ensures.reply, c.silent-in-Ok-allocate_for_root.ensures.gone)
+    (answered_silently a.self.now c.allocate_for_root.new.self _ _ _ _ _
+    (λ s h. made_at_once a.root.now a.fields a.guard a.style a.self.now c.allocate_for_root.new.self s h c.in-Some.ensures.1 sound
+    made.name made.address allocated)
     (λ s h. refl))
 
-pub returns-in-Ok-add-clause-turn : goal.returns-in-Ok-add-clause-turn
-returns-in-Ok-add-clause-turn g c =
+pub returns-in-Ok-allocate_for_root-clause-turn : goal.returns-in-Ok-allocate_for_root-clause-turn
+returns-in-Ok-allocate_for_root-clause-turn g c =
     let a = c.args in
     let r = c.reserve_root.new.self in
-    let made = c.in-Ok-add.made in
-    subst (λ (heap : HeapView). IsOneTurn heap c.add.new.self.heap) (heap_reserved a.self.now r a.root.now c.in-Ok.is_new c.in-Ok.ensures.ok)
-    (turn_allocated r.heap c.add.new.self.heap a.fields a.guard a.style made.name made.address c.in-Ok-add.ensures.allocated.allocation)
+    let made = c.in-Ok-allocate_for_root.made in
+    subst (λ (heap : HeapView). IsOneTurn heap c.allocate_for_root.new.self.heap)
+    (heap_reserved a.self.now r a.root.now c.in-Ok.is_new c.in-Ok.ensures.ok)
+    (turn_allocated r.heap c.allocate_for_root.new.self.heap a.fields a.guard a.style made.name made.address
+    c.in-Ok-allocate_for_root.ensures.allocated.allocation)
 
 pub returns-in-Err-NoMemory-clause-done : goal.returns-in-Err-NoMemory-clause-done
 returns-in-Err-NoMemory-clause-done g c =

@@ -11,8 +11,8 @@ pub returns-in_err-gone-clause-fault : goal.returns-in_err-gone-clause-fault
 returns-in_err-gone-clause-fault g c = λ v reserved.
     let a = c.args in
     let need = c.requires in
-    let first = c.collect_all-collected in
-    let second = c.add_at_limit-reply in
+    let first = c.collect_whole-collected in
+    let second = c.allocate_at_limit-reply in
     let last = subst (λ (u : View). IsLastReply u second.new.self a.root.now a.is_new a.fields a.guard a.style second.result)
     first.ensures.rest second.ensures.last in
     on_err c.from_residual.result _
@@ -22,8 +22,8 @@ returns-in_err-gone-clause-fault g c = λ v reserved.
 pub returns-in_err-gone-clause-turn : goal.returns-in_err-gone-clause-turn
 returns-in_err-gone-clause-turn g c =
     let a = c.args in
-    let first = c.collect_all-collected in
-    let second = c.add_at_limit-reply in
+    let first = c.collect_whole-collected in
+    let second = c.allocate_at_limit-reply in
     turn_last a.self.now.heap first.new.self second.new.self a.root.now a.is_new a.fields a.guard a.style second.result
     first.ensures.one_verdict second.ensures.last
 
@@ -31,8 +31,8 @@ pub returns-clause-done : goal.returns-clause-done
 returns-clause-done g c = λ v reserved.
     let a = c.args in
     let need = c.requires in
-    let first = c.collect_all-collected in
-    let second = c.add_at_limit-reply in
+    let first = c.collect_whole-collected in
+    let second = c.allocate_at_limit-reply in
     let told = c.in_ok-gone in
     let last = subst (λ (u : View). IsLastReply u second.new.self a.root.now a.is_new a.fields a.guard a.style second.result)
     first.ensures.rest second.ensures.last in
@@ -43,7 +43,7 @@ returns-clause-done g c = λ v reserved.
 pub returns-clause-turn : goal.returns-clause-turn
 returns-clause-turn g c =
     let a = c.args in
-    let first = c.collect_all-collected in
-    let second = c.add_at_limit-reply in
+    let first = c.collect_whole-collected in
+    let second = c.allocate_at_limit-reply in
     turn_last a.self.now.heap first.new.self second.new.self a.root.now a.is_new a.fields a.guard a.style second.result
     first.ensures.one_verdict second.ensures.last

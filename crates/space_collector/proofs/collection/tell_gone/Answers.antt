@@ -1,7 +1,7 @@
 use Rattle.std.proofs.Common.{refl, ◌∙◌, arith}
 use Rattle.space_collector.proofs.GoneLists.{next_gone_small}
 use Rattle.space_collector.proofs.ToldLines.{told_none, goes_on, stops, ends, ends_early}
-use Rattle.space_collector.proofs.telling.tell_gone.Goals as goal
+use Rattle.space_collector.proofs.collection.tell_gone.Goals as goal
 
 pub told-init : goal.told-init
 told-init g c = record {

@@ -6,7 +6,7 @@ use Rattle.space_heap.specs.SoundHeap.{IsSoundHeap}
 use Rattle.space_collector.specs.GoneNames.{gone_names}
 use Rattle.space_collector.specs.PagesSwept.{SweepsPages}
 use Rattle.space_collector.specs.Quiescent.{IsQuiescent}
-use Rattle.space_collector.proofs.sweeping.sweep_all.Given as goal
+use Rattle.space_collector.proofs.collection.sweep_all.Given as goal
 
 abbrev pub invariant-pages : goal.invariant-pages
 invariant-pages l = record {

@@ -7,7 +7,7 @@ use Rattle.space_collector.specs.Quiescent.{IsQuiescent}
 use Rattle.space_collector.proofs.GoneLists.{gone_count}
 use Rattle.space_collector.proofs.HeapVerdictLaws.{quiescent-settled}
 use Rattle.space_collector.proofs.QuiescentLaws.{none_gone, none_moved_idle, idle_not_sweeping}
-use Rattle.space_collector.proofs.collecting.collect.Goals as goal
+use Rattle.space_collector.proofs.collection.collect.Goals as goal
 
 pub verdict-gone-requires-clause-none_gone : goal.verdict-gone-requires-clause-none_gone
 verdict-gone-requires-clause-none_gone g c = λ a e.

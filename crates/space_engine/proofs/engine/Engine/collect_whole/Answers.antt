@@ -2,7 +2,7 @@
 use Rattle.std.proofs.Common.{ap, arith}
 use Rattle.space_engine.specs.Views.{View}
 use Rattle.space_engine.proofs.CollectionCounts.{freed_verdict, pages_collected, limit_collected, one_verdict}
-use Rattle.space_engine.proofs.engine.Engine.collect_all.Goals as goal
+use Rattle.space_engine.proofs.engine.Engine.collect_whole.Goals as goal
 
 pub sweep_all-requires-clause-few : goal.sweep_all-requires-clause-few
 sweep_all-requires-clause-few g c =

@@ -1,7 +1,7 @@
 use Rattle.std.proofs.Common.{◌≡◌, ◌-◌, ◌^◌, ◌≤◌}
 use Rattle.std.specs.Io.KnownBytes.{Appends}
 use Rattle.space_collector.proofs.ToldLines.{told}
-use Rattle.space_collector.proofs.telling.tell_gone.Given as goal
+use Rattle.space_collector.proofs.collection.tell_gone.Given as goal
 
 abbrev pub invariant-told : goal.invariant-told
 invariant-told g l = record {

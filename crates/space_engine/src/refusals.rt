@@ -15,6 +15,7 @@ fn rank(why: Refusal) -> u8
         Refusal::NoWord => 2,
         Refusal::NotObject => 3,
         Refusal::NoField => 4,
+        Refusal::Protected => 5,
     }
 }
 

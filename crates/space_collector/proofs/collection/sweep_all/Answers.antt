@@ -6,7 +6,7 @@ use Rattle.space_collector.proofs.AllSweeps.{unswept_most, sweeps_more, sweeps_a
 use Rattle.space_collector.proofs.GoneLists.{gone_few}
 use Rattle.space_collector.proofs.PageSweeps.{fewer_wait, freed-first, freed_most-first, gone-first, none_up_to, phase_left-first, quiescent-first}
 use Rattle.space_sweep.proofs.GoneWaits.{none_gone_waiting}
-use Rattle.space_collector.proofs.sweeping.sweep_all.Goals as goal
+use Rattle.space_collector.proofs.collection.sweep_all.Goals as goal
 
 pub sweep_first-requires-clause-first : goal.sweep_first-requires-clause-first
 sweep_first-requires-clause-first c =

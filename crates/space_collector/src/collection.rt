@@ -1,0 +1,101 @@
+// A whole collection: the marking and its verdict, the lines of the verdict, and the sweep of all pages that wait.
+ghost use Rattle.std.specs.Prelude.{◌≡◌, ◌≢◌, ◌<◌, ◌≤◌, ◌+◌, ◌^◌, [], length, map, OnOk, OnErr};
+ghost use Rattle.std.specs.Io.KnownBytes.{Appends};
+ghost use Rattle.space_io.specs.Causes.{HasCause};
+ghost use Rattle.space_io.specs.Sinks.{AppendsPrefix};
+ghost use Rattle.space_model.specs.declared.phase.Phase.TheVariants.{Idle, Sweeping};
+ghost use Rattle.space_model.specs.Counts.{CountIs};
+ghost use Rattle.space_model.specs.Outputs.{Told};
+ghost use Rattle.space_model.specs.Texts.{text_of};
+ghost use Rattle.space_model.specs.Verdicts.{verdict_events};
+ghost use Rattle.space_heap.specs.SoundHeap.{IsSoundHeap};
+ghost use Rattle.space_roots.specs.WordRoots.{root_words};
+ghost use Rattle.space_tracing.specs.Graph.{IsLive};
+ghost use Rattle.space_collector.specs.GoneNames.{gone_names};
+ghost use Rattle.space_collector.specs.HeapVerdicts.{IsHeapVerdict};
+ghost use Rattle.space_collector.specs.PagesSwept.{SweepsAll};
+ghost use Rattle.space_collector.specs.Quiescent.{most_slots, CanCollect, IsQuiescent};
+
+use space_heap::Heap;
+use space_io::{Sink, WriteFault};
+use space_major::whole;
+use space_model::{Event, Kind, Ledger, Steps};
+use space_roots::{Roots, Stack};
+use space_sweep::{next_gone, next_unswept, sweep_first, verdict};
+use space_trace::write_event;
+
+/// What a whole marking and its verdict did.
+#[derive(Clone, Copy, Debug, PartialEq, Eq)]
+pub struct Collected {
+    /// How many objects were scanned.
+    pub scans: u64,
+    /// How many objects are gone.
+    pub gone: u64,
+}
+
+/// Marks what roots and the stack lead to, as a whole marking of CRuby 3.3 does, and then carries out a full verdict: all
+/// other objects are gone, and each page that has a pool waits for a sweep. The answer counts objects. It takes no memory,
+/// frees no slot and tells nothing. That the verdict is on all pages before the first sweep is this project's own.
+pub fn collect<L: Ledger>(
+    heap: &mut Heap,
+    roots: &Roots,
+    stack: &Stack,
+    steps: &mut Steps<L>,
+) -> Collected
+    requires able { CanCollect heap.old }
+    requires steps { steps.old < 2 ^ 62 }
+    ensures verdict { IsHeapVerdict heap.old heap.new Kind.Full (IsLive heap.old (root_words roots.now) stack.now) }
+    ensures scanned { CountIs (IsLive heap.old (root_words roots.now) stack.now) result.scans }
+    ensures few { result.scans < 2 ^ 26 }
+    ensures gone { result.gone ≡ length (gone_names heap.new) }
+    ensures quiescent { IsQuiescent heap.new }
+    ensures ticked { steps.new ≡ steps.old + result.scans }
+{
+    let scans = whole(heap, roots, stack, steps);
+    let gone = verdict(heap, Kind::Full);
+    Collected { scans, gone }
+}
+
+/// Writes the lines of a verdict of any kind: one for each gone object, in ascending address, and one with their number,
+/// which the caller knows from the verdict. An `Err` comes exactly where a write failed, and no further line is written
+/// then. The lines and their order are this project's own.
+pub fn tell_gone<K: Sink>(
+    heap: &Heap,
+    kind: Kind,
+    gone: u64,
+    sink: &mut K,
+) -> Result<(), WriteFault>
+    requires counted { gone ≡ length (gone_names heap.now) }
+    ensures done { OnOk result (Appends (K.written sink.old) (K.written sink.new) (text_of (map Told (verdict_events kind (gone_names heap.now))))) }
+    ensures fault { OnErr result (AppendsPrefix (K.written sink.old) (K.written sink.new) (text_of (map Told (verdict_events kind (gone_names heap.now))))) }
+    ensures cause { HasCause (K.faults sink.old) (K.faults sink.new) result }
+{
+    let mut from = 0;
+    'told: while let Some(object) = next_gone(heap, from) {
+        write_event(&Event::Gone { name: object.name }, sink)?;
+        from = object.address + 1;
+    }
+    write_event(&Event::Verdict { kind, gone }, sink)
+}
+
+/// Sweeps each page that waits, in ascending order, and counts each freed slot; where none waits nothing changes. It takes
+/// no memory. After each sweep it goes on above the swept page, so that beside the sweeps it looks at each page three times
+/// at most. Sweeping page by page is CRuby 3.3's; the order is this project's own.
+pub fn sweep_all(heap: &mut Heap)
+    requires quiescent { IsQuiescent heap.old }
+    requires few { heap.old.counters.freed < 2 ^ 61 }
+    ensures swept { SweepsAll heap.old heap.new }
+    ensures none_waits { heap.new.unswept ≡ [] }
+    ensures freed { heap.new.counters.freed ≡ heap.old.counters.freed + length (gone_names heap.old) }
+    ensures most { heap.new.counters.freed ≤ heap.old.counters.freed + most_slots }
+    ensures idle { heap.old.phase ≡ Sweeping → heap.new.phase ≡ Idle }
+    ensures same { heap.old.phase ≢ Sweeping → heap.new ≡ heap.old }
+    ensures quiescent { IsQuiescent heap.new }
+    ensures sound { IsSoundHeap heap.new }
+{
+    let mut from = 0;
+    'pages: while let Some(page) = next_unswept(heap, from) {
+        sweep_first(heap, page);
+        from = page + 1;
+    }
+}
