@@ -1,30 +1,30 @@
-// A whole collection: the marking and its verdict, the lines of the verdict, and the sweep of all pages that wait.
+// A collection: the marking and its verdict, the lines of the verdict, and the sweep of all pages that wait.
 ghost use Rattle.std.specs.Prelude.{◌≡◌, ◌≢◌, ◌<◌, ◌≤◌, ◌+◌, ◌^◌, [], length, map, OnOk, OnErr};
 ghost use Rattle.std.specs.Io.KnownBytes.{Appends};
 ghost use Rattle.space_io.specs.Causes.{HasCause};
 ghost use Rattle.space_io.specs.Sinks.{AppendsPrefix};
 ghost use Rattle.space_model.specs.declared.phase.Phase.TheVariants.{Idle, Sweeping};
-ghost use Rattle.space_model.specs.Counts.{CountIs};
 ghost use Rattle.space_model.specs.Outputs.{Told};
 ghost use Rattle.space_model.specs.Texts.{text_of};
 ghost use Rattle.space_model.specs.Verdicts.{verdict_events};
 ghost use Rattle.space_heap.specs.SoundHeap.{IsSoundHeap};
+ghost use Rattle.space_heap.specs.Sweeping.{HasNoGone};
 ghost use Rattle.space_roots.specs.WordRoots.{root_words};
-ghost use Rattle.space_tracing.specs.Graph.{IsLive};
 ghost use Rattle.space_collector.specs.GoneNames.{gone_names};
-ghost use Rattle.space_collector.specs.HeapVerdicts.{IsHeapVerdict};
+ghost use Rattle.space_collector.specs.HeapVerdicts.{IsKindMarking, IsHeapVerdict};
 ghost use Rattle.space_collector.specs.PagesSwept.{SweepsAll};
 ghost use Rattle.space_collector.specs.Quiescent.{most_slots, CanCollect, IsQuiescent};
 
 use space_heap::Heap;
 use space_io::{Sink, WriteFault};
 use space_major::whole;
+use space_minor::minor;
 use space_model::{Event, Kind, Ledger, Steps};
 use space_roots::{Roots, Stack};
 use space_sweep::{next_gone, next_unswept, sweep_first, verdict};
 use space_trace::write_event;
 
-/// What a whole marking and its verdict did.
+/// What a marking and its verdict did.
 #[derive(Clone, Copy, Debug, PartialEq, Eq)]
 pub struct Collected {
     /// How many objects were scanned.
@@ -33,26 +33,47 @@ pub struct Collected {
     pub gone: u64,
 }
 
-/// Marks what roots and the stack lead to, as a whole marking of CRuby 3.3 does, and then carries out a full verdict: all
-/// other objects are gone, and each page that has a pool waits for a sweep. The answer counts objects. It takes no memory,
-/// frees no slot and tells nothing. That the verdict is on all pages before the first sweep is this project's own.
+// The marking of a collection of this kind. The answer is how many objects were scanned.
+fn mark<L: Ledger>(
+    heap: &mut Heap,
+    roots: &Roots,
+    stack: &Stack,
+    kind: Kind,
+    steps: &mut Steps<L>,
+) -> u64
+    requires steps { steps.old < 2 ^ 62 }
+    requires none_gone { HasNoGone heap.old }
+    ensures marking { IsKindMarking heap.old heap.new kind (root_words roots.now) stack.now result }
+    ensures few { result < 2 ^ 27 }
+    ensures ticked { steps.new ≡ steps.old + result }
+{
+    match kind {
+        Kind::Minor => minor(heap, roots, stack, steps),
+        Kind::Major | Kind::Full => whole(heap, roots, stack, steps),
+    }
+}
+
+/// Marks what roots and the stack lead to, as a minor or a whole marking of CRuby 3.3 does, and then carries out a verdict of
+/// the kind: all other objects are gone, and each page that has a pool waits for a sweep. A minor marking spares old and kept
+/// objects too; a major and a full verdict come after a whole one. The answer counts objects. It takes no memory, frees no
+/// slot and tells nothing. That the verdict is on all pages before the first sweep is this project's own.
 pub fn collect<L: Ledger>(
     heap: &mut Heap,
     roots: &Roots,
     stack: &Stack,
+    kind: Kind,
     steps: &mut Steps<L>,
 ) -> Collected
     requires able { CanCollect heap.old }
     requires steps { steps.old < 2 ^ 62 }
-    ensures verdict { IsHeapVerdict heap.old heap.new Kind.Full (IsLive heap.old (root_words roots.now) stack.now) }
-    ensures scanned { CountIs (IsLive heap.old (root_words roots.now) stack.now) result.scans }
-    ensures few { result.scans < 2 ^ 26 }
+    ensures verdict { IsHeapVerdict heap.old heap.new kind (root_words roots.now) stack.now result.scans }
+    ensures few { result.scans < 2 ^ 27 }
     ensures gone { result.gone ≡ length (gone_names heap.new) }
     ensures quiescent { IsQuiescent heap.new }
     ensures ticked { steps.new ≡ steps.old + result.scans }
 {
-    let scans = whole(heap, roots, stack, steps);
-    let gone = verdict(heap, Kind::Full);
+    let scans = mark(heap, roots, stack, kind, steps);
+    let gone = verdict(heap, kind);
     Collected { scans, gone }
 }
 

@@ -1,9 +1,10 @@
 pub mod Views
 pub mod Inside
 pub mod Allocations
-pub mod WholeCollections
+pub mod HeapCollections
 pub mod Words
 pub mod Turns
+pub mod Generations
 pub mod Stands
 pub mod Counting
 pub mod Ticks

@@ -12,6 +12,7 @@ use Rattle.space_heap.specs.Slots.{ObjectView}
 use Rattle.space_heap.specs.HeapView.{HeapView, Counters as HeapCounters, pool_at}
 use Rattle.space_heap.specs.Objects.{is_occupied, is_object, object_of, is_moved, resolved}
 use Rattle.space_model.specs.StoredWords.{stored_words}
+use Rattle.space_engine.specs.Generations.{HasGenerations}
 use Rattle.space_engine.specs.Views.{View, SpaceView}
 use Rattle.space_engine.specs.Words.{word_roots, resolved_roots}
 
@@ -75,6 +76,7 @@ pub record HeapRepresents (graph : List Item) (own : Heap) (collector : Collecto
 -- the view has what the state has: the words of roots are those of their values, once they are resolved, and the stack's are the same
 pub record Represents (v : View) (s : State) : Type 0 where
   pub heap : HeapRepresents s.graph s.heap s.collector s.counters v.heap
+  pub generations : HasGenerations s.graph s.heap.place s.collector s.history.mixed v.heap
   pub roots : resolved_roots v.heap v.roots ≡ word_roots s.heap.place s.roots
   pub stack : s.stack ≡ v.stack
 

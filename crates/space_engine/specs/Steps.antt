@@ -2,7 +2,7 @@
 use Rattle.std.specs.Prelude.{◌≡◌, ℕ, List, [], ◌∷◌, Option}
 use Rattle.std.specs.Io.KnownBytes.{Appends}
 use Rattle.space_model.specs.declared.command.Command.{Command}
-use Rattle.space_model.specs.declared.command.Command.TheVariants.{New, Gc}
+use Rattle.space_model.specs.declared.command.Command.TheVariants.{New, Minor, Gc}
 use Rattle.space_model.specs.declared.event.Event.{Event}
 use Rattle.space_model.specs.declared.reply.Reply.{Reply}
 use Rattle.space_model.specs.Lawful.{Effects, Lawful, Replies}
@@ -18,6 +18,7 @@ use Rattle.space_engine.specs.Ticks.{AreTicked}
 -- the command tells no events
 abbrev pub IsQuiet : Command → Type 0
 IsQuiet (New root fields guard style) = ⊥
+IsQuiet Minor = ⊥
 IsQuiet Gc = ⊥
 IsQuiet _ = Unit {0}
 

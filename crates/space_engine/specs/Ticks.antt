@@ -1,7 +1,7 @@
 -- How far the ledger's count rises by a command.
 use Rattle.std.specs.Prelude.{◌≡◌, ℕ, ◌+◌, ◌^◌, ◌≤◌, ◌<◌, List, [], ◌∷◌, ◌++◌, map}
 use Rattle.space_model.specs.declared.command.Command.{Command}
-use Rattle.space_model.specs.declared.command.Command.TheVariants.{New, Load, Gc}
+use Rattle.space_model.specs.declared.command.Command.TheVariants.{New, Load, Minor, Gc}
 use Rattle.space_model.specs.declared.event.Event.{Event}
 use Rattle.space_model.specs.declared.reply.Reply.{Reply}
 use Rattle.space_model.specs.declared.reply.Reply.TheVariants.{Scanned, Refused}
@@ -11,9 +11,9 @@ use Rattle.space_model.specs.Outputs.{Output, Told, Replied}
 use Rattle.space_model.specs.Reach.{Reach}
 use Rattle.space_model.specs.State.{State}
 
--- whatever is written, the count rises by fewer than 2 ^ 26, which is more than a heap has slots, or stays
+-- whatever is written, the count rises by fewer than 2 ^ 27, which is more than a heap has slots twice, or stays
 abbrev pub RisesByFewer : ℕ → ℕ → Type 0
-RisesByFewer before after = (before ≤ after) × (after < before + 2 ^ 26)
+RisesByFewer before after = (before ≤ after) × (after < before + 2 ^ 27)
 
 -- a command that tells no events: in `load` by one, where a field was read, and else not at all
 abbrev pub IsReplyTicked : Command → Reply → ℕ → ℕ → Type 0
@@ -30,9 +30,10 @@ pub record IsMarkingTicked (s : State) (before after : ℕ) : Type 0 where
   pub scanned : CountIs (Reach idle) scans
   pub ticked : after ≡ before + scans
 
--- by the command, its events and its reply: in `gc` by the scans that the reply tells; in `new`, which tells events only where it collects,
+-- by the command, its events and its reply: in `minor` and `gc` by the scans that the reply tells; in `new`, which tells events only where it collects,
 -- by the scans of that collection, and without one not at all
 abbrev pub IsTicked : State → Command → List Event → Reply → ℕ → ℕ → Type 0
+IsTicked s Minor events (Scanned count) before after = after ≡ before + count
 IsTicked s Gc events (Scanned count) before after = after ≡ before + count
 IsTicked s (New root fields guard style) [] reply before after = after ≡ before
 IsTicked s (New root fields guard style) (event ∷ events) reply before after = IsMarkingTicked s before after

@@ -2,6 +2,7 @@
 use Rattle.std.specs.Prelude.{ℕ, Bool, false, List, [], ◌∷◌, ◌++◌, if◌then◌else◌}
 use Rattle.space_heap.specs.HeapView.{HeapView, empty_heap}
 use Rattle.space_heap.specs.Objects.{written}
+use Rattle.space_barrier.specs.Barrier.{stored, unprotected}
 use Rattle.space_roots.specs.WordRoots.{with_root_word, without_root}
 
 -- the parts of a space
@@ -36,9 +37,17 @@ with_root_dropped v root = record v { roots = without_root v.roots root }
 abbrev pub with_stack : View → List ℕ → View
 with_stack v words = record v { stack = words }
 
--- a field of the object at this address got the word
+-- a field of the object at this address got the word, by the write barrier's rules
 abbrev pub with_field : View → ℕ → ℕ → ℕ → View
-with_field v address index word = with_heap v (written v.heap address index word)
+with_field v address index word = with_heap v (stored v.heap address index word)
+
+-- a field of the object at this address got the word, and nothing else changed
+abbrev pub with_raw_field : View → ℕ → ℕ → ℕ → View
+with_raw_field v address index word = with_heap v (written v.heap address index word)
+
+-- the write barrier protects the object at this address no more
+abbrev pub with_unprotected : View → ℕ → View
+with_unprotected v address = with_heap v (unprotected v.heap address)
 
 -- the whole space
 pub record SpaceView : Type 0 where

@@ -40,6 +40,11 @@ abbrev pub written_words : FinMap nat_cmp ℕ → Result (ℕ × Value) Refusal 
 written_words place (Ok written) = Ok (value_word place (Name written.0), value_word place written.1)
 written_words place (Err why) = Err why
 
+-- the address of a name, or the same refusal
+abbrev pub named_address : FinMap nat_cmp ℕ → Result ℕ Refusal → Result ℕ Refusal
+named_address place (Ok name) = Ok (value_word place (Name name))
+named_address place (Err why) = Err why
+
 -- the address of the object that the word names, where it has this field
 abbrev pub owner_of_field : HeapView → ℕ → ℕ → Result ℕ Refusal
 owner_of_field heap word index =

@@ -19,7 +19,7 @@ mod stack_commands;
 
 use space_heap::Heap;
 use space_io::{Sink, WriteFault};
-use space_model::{Command, Ledger, Phase, Reply, Steps};
+use space_model::{Command, Kind, Ledger, Phase, Reply, Steps};
 use space_roots::{Roots, Stack};
 use std::alloc::{AllocError as NoMemory, Global};
 use std::marker::Model;
@@ -104,7 +104,8 @@ impl Engine {
                 guard,
                 style,
             } => self.create(root, *fields, *guard, *style, sink, steps),
-            Command::Gc => self.gc(sink, steps),
+            Command::Minor => self.collect_and_reply(Kind::Minor, sink, steps),
+            Command::Gc => self.collect_and_reply(Kind::Full, sink, steps),
             _ => Ok(silent(self.reply(command, steps))),
         }
     }

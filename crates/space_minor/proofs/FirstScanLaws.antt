@@ -1,5 +1,5 @@
 -- The scans from the start of a minor marking.
-use Rattle.std.proofs.Common.{◌≡◌, ◌⊎◌, ⊎_elim, ℕ, ◌+◌, ◌^◌, ◌<◌, ◌≤◌, true, false, true≢false, ◌∷◌, ◌++◌, List, [], nat_eq, refl, sym, ◌∙◌, arith}
+use Rattle.std.proofs.Common.{◌≡◌, ◌⊎◌, ⊎_elim, ℕ, ◌+◌, ◌*◌, ◌^◌, ◌<◌, ◌≤◌, true, false, true≢false, ◌∷◌, ◌++◌, List, [], length, nat_eq, refl, sym, ◌∙◌, arith}
 use Rattle.std.specs.Set.{is_member}
 use Rattle.std.proofs.lemmas.Bool.{cases_eq, cases_Bool, cases_lt, and_parts, false_from_ne_true}
 use Rattle.std.proofs.lemmas.Bool.Decides.{nat_tests}
@@ -12,6 +12,7 @@ use Rattle.space_heap.specs.Marking.{colour_of}
 use Rattle.space_heap.specs.planes.RecolouredMarks.{is_black}
 use Rattle.space_heap.specs.Generations.{has_minor_scan, is_minor_scan}
 use Rattle.space_heap.specs.Walks.{HasNoMinorScanFrom, IsNextMinorScan}
+use Rattle.space_heap.proofs.fields.SlotCounts.{few_in_sound}
 use Rattle.space_heap.proofs.SweptPages.{standing_below}
 use Rattle.space_heap.proofs.ObjectLaws.{occupied_from_object}
 use Rattle.space_heap.proofs.NumberLists.{is_member-push}
@@ -24,6 +25,11 @@ use Rattle.space_minor.specs.FirstScans.{IsHeld, ScansBelow}
 -- no object stands at or above 2^29
 pub small_object : (v : HeapView) (a : ℕ) → IsSoundHeap v → is_object v a ≡ true → a < 2 ^ 29
 small_object v a sound is = standing_below v a sound (occupied_from_object v a is)
+
+-- no more objects are scanned again than there are slots
+pub few_again : (old v : HeapView) (words again done : List ℕ) → Marks old v words again done → IsSoundHeap v → length again ≤ 1638 * 4096
+few_again old v words again done m sound = few_in_sound v sound again m.marking.again_once
+    (λ a k. m.same.standing a ∙ occupied_from_colour old a (let b = m.marking.again_black a k in λ w. cc))
 
 pub Black-from_is_black : (c : Colour) → is_black c ≡ true → c ≡ Black
 Black-from_is_black White e = cc

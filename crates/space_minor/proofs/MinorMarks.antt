@@ -79,7 +79,7 @@ start_join v roots stack n s = ⊎_elim
     (λ k. (k.0, list_any-append (nat_eq n) roots stack ∙ or_right _ _ k.1))
     s
 
-module _ (old new : HeapView) (roots stack again done : List ℕ) (clean : HasNoGone old) (gen : IsGenerational old)
+module _ (old new : HeapView) (roots stack again done : List ℕ) (clean : HasNoGone old)
     (p : Marking (old_marked old) new (roots ++ stack) again done) (none : (n : ℕ) → colour_of new n ≢ Grey)
     (each : (a : ℕ) → is_member nat_eq again a ≡ is_minor_scan (old_marked old) a) where
   abbrev s : HeapView
@@ -94,48 +94,49 @@ module _ (old new : HeapView) (roots stack again done : List ℕ) (clean : HasNo
   abbrev Start : ℕ → Type 0
   Start a = IsMinorScan old a ⊎ IsStart old roots stack a
 
-  -- where an old or kept object isn't scanned again its children are old or kept
-  held_children : (m q : ℕ) → IsOldOrKept old m → IsChild old m q → IsMinorScan old m ⊎ IsOldOrKept old q
-  held_children m q h c = ⊎_elim
-      (λ o. ⊎_elim
-      (λ r. inl (or_left _ _ (and_from _ _ o r)))
-      (λ f. inr (gen m q o f c))
-      (cases_Bool (object_of old m).remembered))
-      (λ k. inl (or_right _ _ k))
-      h
+  module _ (gen : IsGenerational old) where
+    -- where an old or kept object isn't scanned again its children are old or kept
+    held_children : (m q : ℕ) → IsOldOrKept old m → IsChild old m q → IsMinorScan old m ⊎ IsOldOrKept old q
+    held_children m q h c = ⊎_elim
+        (λ o. ⊎_elim
+        (λ r. inl (or_left _ _ (and_from _ _ o r)))
+        (λ f. inr (gen m q o f c))
+        (cases_Bool (object_of old m).remembered))
+        (λ k. inl (or_right _ _ k))
+        h
 
-  exactly : (n : ℕ) → IsMarked new n ↔ IsReached (IsChild s) (From s (roots ++ stack)) n
-  exactly n = marked_exactly s new (roots ++ stack) again done p none
-      (λ m q b fresh c. ⊎_elim
-      (λ l. absurd (true≢false (sym ((again_is m).1 l) ∙ fresh)))
-      (λ k. p.kept q (held_marked q k))
-      (held_children m q (old_or_kept_from old m (λ w. cc)) (sym (is_child-same old s m q (SameGraph-old_marked old)) ∙ c))) n
+    exactly : (n : ℕ) → IsMarked new n ↔ IsReached (IsChild s) (From s (roots ++ stack)) n
+    exactly n = marked_exactly s new (roots ++ stack) again done p none
+        (λ m q b fresh c. ⊎_elim
+        (λ l. absurd (true≢false (sym ((again_is m).1 l) ∙ fresh)))
+        (λ k. p.kept q (held_marked q k))
+        (held_children m q (old_or_kept_from old m (λ w. cc)) (sym (is_child-same old s m q (SameGraph-old_marked old)) ∙ c))) n
 
-  pub spared : (n : ℕ) → IsMarked new n ↔ IsSpared old roots stack n
-  spared n =
-      let same = SameGraph-old_marked old in (
-        (λ m. IsReached-least (IsChild s) (From s (roots ++ stack)) (IsSpared old roots stack)
-            (λ x y h c.
-            let d : IsChild old x y = sym (is_child-same old s x y same) ∙ c in
-            ⊎_elim
-            (λ held. ⊎_elim
-            (λ l. inr (IsReached-closed (IsChild old) Start x y (IsReached-start (IsChild old) Start x (inl l)) d))
-            (λ k. inl k)
-            (held_children x y held d))
-            (λ r. inr (IsReached-closed (IsChild old) Start x y r d)) h)
-            (λ x f. ⊎_elim
-            (λ k. inl (old_or_kept_from old x k))
-            (λ k. inr (IsReached-start (IsChild old) Start x (inr (start_split old roots stack x (sym (is_object-old_marked old x) ∙ k.0, k.1)))))
-            f)
-            n ((exactly n).0 m)),
-        (λ h. ⊎_elim
-            (λ o. p.kept n (held_marked n o))
-            (λ r. (exactly n).1 (IsReached-mono (IsChild old) (IsChild s) Start (From s (roots ++ stack)) (λ x y c. is_child-same old s x y same ∙ c)
-            (λ x f. IsReached-start (IsChild s) (From s (roots ++ stack)) x (⊎_elim
-            (λ l. inl (held_marked x (reasons old x l)))
-            (λ k. let t = start_join old roots stack x k in inr (is_object-old_marked old x ∙ t.0, t.1)) f)) n r))
-            h),
-      )
+    pub spared : (n : ℕ) → IsMarked new n ↔ IsSpared old roots stack n
+    spared n =
+        let same = SameGraph-old_marked old in (
+          (λ m. IsReached-least (IsChild s) (From s (roots ++ stack)) (IsSpared old roots stack)
+              (λ x y h c.
+              let d : IsChild old x y = sym (is_child-same old s x y same) ∙ c in
+              ⊎_elim
+              (λ held. ⊎_elim
+              (λ l. inr (IsReached-closed (IsChild old) Start x y (IsReached-start (IsChild old) Start x (inl l)) d))
+              (λ k. inl k)
+              (held_children x y held d))
+              (λ r. inr (IsReached-closed (IsChild old) Start x y r d)) h)
+              (λ x f. ⊎_elim
+              (λ k. inl (old_or_kept_from old x k))
+              (λ k. inr (IsReached-start (IsChild old) Start x (inr (start_split old roots stack x (sym (is_object-old_marked old x) ∙ k.0, k.1)))))
+              f)
+              n ((exactly n).0 m)),
+          (λ h. ⊎_elim
+              (λ o. p.kept n (held_marked n o))
+              (λ r. (exactly n).1 (IsReached-mono (IsChild old) (IsChild s) Start (From s (roots ++ stack)) (λ x y c. is_child-same old s x y same ∙ c)
+              (λ x f. IsReached-start (IsChild s) (From s (roots ++ stack)) x (⊎_elim
+              (λ l. inl (held_marked x (reasons old x l)))
+              (λ k. let t = start_join old roots stack x k in inr (is_object-old_marked old x ∙ t.0, t.1)) f)) n r))
+              h),
+        )
 
   -- what was scanned for the first time
   done_is : (n : ℕ) → (is_member nat_eq done n ≡ true) ↔ IsNewlyMarked old new n

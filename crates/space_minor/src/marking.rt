@@ -3,6 +3,7 @@ ghost use Rattle.std.specs.Prelude.{◌≡◌, ◌≢◌, ◌↔◌, ◌<◌, �
 ghost use Rattle.space_roots.specs.WordRoots.{root_words};
 ghost use Rattle.space_heap.specs.Marking.{colour_of};
 ghost use Rattle.space_heap.specs.Generations.{old_marked};
+ghost use Rattle.space_heap.specs.SoundHeap.{IsSoundHeap};
 ghost use Rattle.space_heap.specs.Sweeping.{HasNoGone};
 ghost use Rattle.space_tracing.specs.Graph.{SameGraph};
 ghost use Rattle.space_tracing.specs.Marking.{IsMarked, IsNoted};
@@ -20,6 +21,7 @@ fn scan_listed<L: Ledger>(heap: &mut Heap, steps: &mut Steps<L>) -> u64
     ensures listed { ScansListed heap.old heap.new result }
     ensures few { result ≤ 2 ^ 29 }
     ensures ticks { steps.new ≡ steps.old + result }
+    ensures sound { IsSoundHeap heap.new }
 {
     let mut scans: u64 = 0;
     let mut from = 0;
@@ -33,16 +35,17 @@ fn scan_listed<L: Ledger>(heap: &mut Heap, steps: &mut Steps<L>) -> u64
 
 /// A minor marking of CRuby 3.3: old and kept objects are marked from its start, and of these only the old ones that are
 /// remembered and the kept ones are scanned; then it marks what roots and the stack lead to. The answer is how many objects
-/// were scanned, each in one step. The order is this project's own: first those that it scans from its start, by ascending
-/// address; then roots, the stack from its bottom, and always the object that became grey last. It takes no memory.
+/// were scanned, each in one step. Which objects are marked is told of heaps in which each old object that isn't remembered
+/// has only old or kept children, as the write barrier keeps it; all else is told of every heap. The order is this project's
+/// own: first those that it scans from its start, by ascending address; then roots, the stack from its bottom, and always the
+/// object that became grey last. It takes no memory.
 pub fn minor<L: Ledger>(heap: &mut Heap, roots: &Roots, stack: &Stack, steps: &mut Steps<L>) -> u64
     requires steps { steps.old < 2 ^ 62 }
     requires none_gone { HasNoGone heap.old }
-    requires generational { IsGenerational heap.old }
-    ensures marked { (n : ℕ) → IsMarked heap.new n ↔ IsSpared heap.old (root_words roots.now) stack.now n }
+    ensures marked { IsGenerational heap.old → (n : ℕ) → IsMarked heap.new n ↔ IsSpared heap.old (root_words roots.now) stack.now n }
     ensures counted { CountsAre (IsMinorScan heap.old) (IsNewlyMarked heap.old heap.new) result }
     ensures noted { IsNoted (old_marked heap.old) heap.new (IsMinorScanned heap.old heap.new) }
-    ensures few { result < 2 ^ 30 }
+    ensures few { result < 2 ^ 27 }
     ensures ticks { steps.new ≡ steps.old + result }
     ensures no_list { heap.new.grey ≡ [] }
     ensures none_grey { (n : ℕ) → colour_of heap.new n ≢ Colour.Grey }

@@ -6,10 +6,10 @@ use Rattle.std.specs.Set.{is_member}
 use Rattle.std.specs.FinMap.{get}
 use Rattle.std.proofs.lemmas.Bool.{ne_eqb, cond-true, cond-false, false≢true, false_from_ne_true, true_from_ne_false}
 use Rattle.space_model.specs.declared.command.Command.{Command}
-use Rattle.space_model.specs.declared.command.Command.TheVariants.{New, Gc}
+use Rattle.space_model.specs.declared.command.Command.TheVariants.{New, Minor, Gc}
 use Rattle.space_model.specs.declared.event.Event.{Event}
 use Rattle.space_model.specs.declared.event.Kind.{Kind}
-use Rattle.space_model.specs.declared.event.Kind.TheVariants.{Full as FullKind}
+use Rattle.space_model.specs.declared.event.Kind.TheVariants.{Minor as MinorKind, Full as FullKind}
 use Rattle.space_model.specs.declared.object.Guard.{Guard}
 use Rattle.space_model.specs.declared.object.Style.{Style}
 use Rattle.space_model.specs.declared.reply.Reply.{Reply}
@@ -147,6 +147,7 @@ effects_after : (s t : State) (command : Command) (events : List Event) (answer 
     EffectsAfter s events answer t
 effects_after s t (New root fields guard style) events answer e =
     record { after = new_after s t root fields guard style events e.reply e.is; reply = e.reply; answer_is = e.answer_is }
+effects_after s t Minor events answer e = record { after = collects_after s t MinorKind events e.reply e.is; reply = e.reply; answer_is = e.answer_is }
 effects_after s t Gc events answer e = record { after = collects_after s t FullKind events e.reply e.is; reply = e.reply; answer_is = e.answer_is }
 effects_after s t command events answer e =
     record { after = same_after s t events e.0 (replies_heap s t command e.1.reply e.1.is); reply = e.1.reply; answer_is = e.1.answer_is }

@@ -1,7 +1,7 @@
 -- What a command without events does to a state: nothing, or one piece of work.
 use Rattle.std.proofs.Common.{◌≡◌, ℕ, Bool, true, false, if◌then◌else◌, List, [], ◌∷◌, ◌++◌, refl, ⊎_elim, Option, None, Some, Result, Ok, Err}
 use Rattle.space_model.specs.declared.command.Command.{Command}
-use Rattle.space_model.specs.declared.command.Command.TheVariants.{New, Set, DropRoot, Push, Raw, Pop, Store, Load, Same, Gc}
+use Rattle.space_model.specs.declared.command.Command.TheVariants.{New, Set, DropRoot, Push, Raw, Pop, Store, RawStore, Load, Same, Unprotect, Minor, Gc}
 use Rattle.space_model.specs.declared.command.Input.{Input}
 use Rattle.space_model.specs.declared.command.Operand.{Operand}
 use Rattle.space_model.specs.declared.reply.Refusal.{Refusal}
@@ -128,7 +128,13 @@ replied_piece s t Pop reply e = pop_piece (IsGiven Pop) s t reply e
 replied_piece s t (Store object index value) reply e =
     store_piece (IsGiven (Store object index value)) s t object index value (written_field s.graph (operand_value s object) index (input_value s value)) reply
     (λ g. g.1.1.1.0) refl e
+replied_piece s t (RawStore object index value) reply e =
+    raw_store_piece (IsGiven (RawStore object index value)) s t object index value
+    (written_field s.graph (operand_value s object) index (input_value s value)) reply (λ g. g.1.1.1.0) refl e
 replied_piece s t (Load root object index) reply e =
     load_piece (IsGiven (Load root object index)) s t root object index (field_value s.graph (operand_value s object) index) reply (λ g. g.1.0) refl e
 replied_piece s t (Same left right) reply e = Nothing e.1
+replied_piece s t (Unprotect object) reply e =
+    unprotect_piece (IsGiven (Unprotect object)) s t object (and_then (operand_value s object) object_in) reply refl e
+replied_piece s t Minor reply e = absurd e
 replied_piece s t Gc reply e = absurd e

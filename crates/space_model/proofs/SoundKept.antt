@@ -8,11 +8,11 @@ use Rattle.std.specs.FinMap.{FinMap, get, keys, empty, get-empty}
 use Rattle.std.proofs.lemmas.Bool.{false≢true, and_parts}
 use Rattle.std.proofs.lemmas.List.{length-append}
 use Rattle.space_model.specs.declared.command.Command.{Command}
-use Rattle.space_model.specs.declared.command.Command.TheVariants.{New, Gc}
+use Rattle.space_model.specs.declared.command.Command.TheVariants.{New, Minor, Gc}
 use Rattle.space_model.specs.declared.object.Guard.{Guard}
 use Rattle.space_model.specs.declared.object.Style.{Style}
 use Rattle.space_model.specs.declared.event.Event.{Event}
-use Rattle.space_model.specs.declared.event.Kind.TheVariants.{Full as FullKind}
+use Rattle.space_model.specs.declared.event.Kind.TheVariants.{Minor as MinorKind, Full as FullKind}
 use Rattle.space_model.specs.declared.reply.Reply.{Reply}
 use Rattle.space_model.specs.declared.reply.Reply.TheVariants.{Made, Full, NoMemory, Refused}
 use Rattle.space_model.specs.declared.value.Value.{Value}
@@ -249,6 +249,7 @@ piece_sound given s t i (GuardPiece name object after) h = Sound-unprotected s t
 effects_sound : (s t : State) (command : Command) (events : List Event) (answer : List Output) → IsGiven command → Effects s command events answer t →
     Sound s → Sound t
 effects_sound s t (New root fields guard style) events answer i e h = new_sound s t root fields guard style events e.reply i.1.0 e.is h
+effects_sound s t Minor events answer i e h = collects_sound s t MinorKind events e.reply e.is h
 effects_sound s t Gc events answer i e h = collects_sound s t FullKind events e.reply e.is h
 effects_sound s t command events answer i e h = piece_sound (IsGiven command) s t i (replied_piece s t command e.1.reply e.1.is) h
 

@@ -4,7 +4,7 @@ use Rattle.std.specs.Option.{option_to_list}
 use Rattle.std.specs.List.{slice_split, All}
 use Rattle.std.specs.Str.Parse.{AllDigits, digits_value}
 use Rattle.space_model.specs.declared.command.Command.{Command}
-use Rattle.space_model.specs.declared.command.Command.TheVariants.{New, Set, DropRoot, Push, Raw, Pop, Store, Load, Same, Gc}
+use Rattle.space_model.specs.declared.command.Command.TheVariants.{New, Set, DropRoot, Push, Raw, Pop, Store, RawStore, Load, Same, Unprotect, Minor, Gc}
 use Rattle.space_model.specs.declared.command.Input.{Input}
 use Rattle.space_model.specs.declared.command.Input.TheVariants.{From, Nil, Small}
 use Rattle.space_model.specs.declared.command.Operand.{Operand}
@@ -88,8 +88,11 @@ form_of (Push value) = Exactly (codes "push") ∷ InputWord value ∷ []
 form_of (Raw word) = Exactly (codes "raw") ∷ Base16 word ∷ []
 form_of Pop = Exactly (codes "pop") ∷ []
 form_of (Store object index value) = Exactly (codes "store") ∷ OperandWord object ∷ Decimal index ∷ InputWord value ∷ []
+form_of (RawStore object index value) = Exactly (codes "rawstore") ∷ OperandWord object ∷ Decimal index ∷ InputWord value ∷ []
 form_of (Load root object index) = Exactly (codes "load") ∷ IdentWord root ∷ OperandWord object ∷ Decimal index ∷ []
 form_of (Same left right) = Exactly (codes "same") ∷ OperandWord left ∷ OperandWord right ∷ []
+form_of (Unprotect object) = Exactly (codes "unprotect") ∷ OperandWord object ∷ []
+form_of Minor = Exactly (codes "minor") ∷ []
 form_of Gc = Exactly (codes "gc") ∷ []
 
 -- the text is this word

@@ -1,12 +1,12 @@
 -- Which outputs a command may have, and the state after it: one row a command.
 use Rattle.std.specs.Prelude.{◌≡◌, List, [], ◌∷◌, ◌++◌, map}
 use Rattle.space_model.specs.declared.command.Command.{Command}
-use Rattle.space_model.specs.declared.command.Command.TheVariants.{New, Set, DropRoot, Push, Raw, Pop, Store, Load, Same, Gc}
+use Rattle.space_model.specs.declared.command.Command.TheVariants.{New, Set, DropRoot, Push, Raw, Pop, Store, RawStore, Load, Same, Unprotect, Minor, Gc}
 use Rattle.space_model.specs.declared.event.Event.{Event}
-use Rattle.space_model.specs.declared.event.Kind.TheVariants.{Full}
+use Rattle.space_model.specs.declared.event.Kind.TheVariants.{Minor as MinorKind, Full}
 use Rattle.space_model.specs.declared.reply.Reply.{Reply}
 use Rattle.space_model.specs.RootCommands.{Sets, DropsRoot, Loads}
-use Rattle.space_model.specs.ObjectCommands.{Stores, Compares}
+use Rattle.space_model.specs.ObjectCommands.{Stores, RawStores, Unprotects, Compares}
 use Rattle.space_model.specs.Collections.{Collects}
 use Rattle.space_model.specs.NewCommand.{AnswersNew}
 use Rattle.space_model.specs.Outputs.{Output, Told, Replied}
@@ -21,8 +21,10 @@ Replies s (Push value) reply t = Pushes s value reply t
 Replies s (Raw word) reply t = PushesWord s word reply t
 Replies s Pop reply t = Pops s reply t
 Replies s (Store object index value) reply t = Stores s object index value reply t
+Replies s (RawStore object index value) reply t = RawStores s object index value reply t
 Replies s (Load root object index) reply t = Loads s root object index reply t
 Replies s (Same left right) reply t = Compares s left right reply t
+Replies s (Unprotect object) reply t = Unprotects s object reply t
 Replies s _ reply t = ⊥
 
 -- the outputs are one reply, of which this holds
@@ -34,6 +36,7 @@ pub record IsOneReply (Is : Reply → Type 0) (answer : List Output) : Type 0 wh
 -- the events of a command, its outputs after them, and the state after it
 abbrev pub Effects : State → Command → List Event → List Output → State → Type 0
 Effects s (New root fields guard style) events answer t = IsOneReply (λ reply. AnswersNew s root fields guard style events reply t) answer
+Effects s Minor events answer t = IsOneReply (λ reply. Collects s MinorKind events reply t) answer
 Effects s Gc events answer t = IsOneReply (λ reply. Collects s Full events reply t) answer
 Effects s command events answer t = (events ≡ []) × IsOneReply (λ reply. Replies s command reply t) answer
 

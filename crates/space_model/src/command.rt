@@ -56,6 +56,12 @@ pub enum Command {
         index: u64,
         value: Input,
     },
+    /// A field of an object that the write barrier doesn't protect becomes the value, and the collector isn't told.
+    RawStore {
+        object: Operand,
+        index: u64,
+        value: Input,
+    },
     /// The root holds the value of a field of the object; a new root comes last.
     Load {
         root: Ident,
@@ -67,6 +73,12 @@ pub enum Command {
         left: Operand,
         right: Operand,
     },
+    /// The write barrier protects the object no more (`rb_gc_writebarrier_unprotect` of CRuby 3.3).
+    Unprotect {
+        object: Operand,
+    },
+    /// A minor collection: young objects go that no root, no stack word, no old object and no object that is kept leads to.
+    Minor,
     /// A whole collection: what no root and no stack word leads to goes (`GC.start` of CRuby 3.3).
     Gc,
 }

@@ -6,7 +6,7 @@ use Rattle.std.specs.List.{slice_index, onto_first}
 use Rattle.std.specs.Str.{bytes_eq}
 use Rattle.std.specs.Str.Parse.{digits_value}
 use Rattle.space_model.specs.declared.command.Command.{Command}
-use Rattle.space_model.specs.declared.command.Command.TheVariants.{New, Set, DropRoot, Push, Raw, Pop, Store, Load, Same, Gc}
+use Rattle.space_model.specs.declared.command.Command.TheVariants.{New, Set, DropRoot, Push, Raw, Pop, Store, RawStore, Load, Same, Unprotect, Minor, Gc}
 use Rattle.space_model.specs.declared.command.Input.{Input}
 use Rattle.space_model.specs.declared.command.Input.TheVariants.{From, Nil, Small}
 use Rattle.space_model.specs.declared.command.Operand.{Operand}
@@ -60,6 +60,10 @@ abbrev store_of : List (List ℕ) → Option Command
 store_of (object ∷ index ∷ value ∷ rest) = Some (Store (operand_of object) (digits_value 10 index) (input_of value))
 store_of _ = None
 
+abbrev raw_store_of : List (List ℕ) → Option Command
+raw_store_of (object ∷ index ∷ value ∷ rest) = Some (RawStore (operand_of object) (digits_value 10 index) (input_of value))
+raw_store_of _ = None
+
 abbrev load_of : List (List ℕ) → Option Command
 load_of (root ∷ object ∷ index ∷ rest) = Some (Load root (operand_of object) (digits_value 10 index))
 load_of _ = None
@@ -67,6 +71,10 @@ load_of _ = None
 abbrev same_of : List (List ℕ) → Option Command
 same_of (left ∷ right ∷ rest) = Some (Same (operand_of left) (operand_of right))
 same_of _ = None
+
+abbrev unprotect_of : List (List ℕ) → Option Command
+unprotect_of (object ∷ rest) = Some (Unprotect (operand_of object))
+unprotect_of _ = None
 
 abbrev form_of : List ℕ → List (List ℕ) → Option Command
 form_of name words =
@@ -77,8 +85,11 @@ form_of name words =
     else if bytes_eq name (codes "raw") then raw_of words
     else if bytes_eq name (codes "pop") then Some Pop
     else if bytes_eq name (codes "store") then store_of words
+    else if bytes_eq name (codes "rawstore") then raw_store_of words
     else if bytes_eq name (codes "load") then load_of words
     else if bytes_eq name (codes "same") then same_of words
+    else if bytes_eq name (codes "unprotect") then unprotect_of words
+    else if bytes_eq name (codes "minor") then Some Minor
     else if bytes_eq name (codes "gc") then Some Gc
     else None
 
@@ -134,9 +145,13 @@ command_is words (Raw word) (_, _, e, f, (w, _, e1, f1, _)) = rw (e, f, e1) (raw
 command_is words Pop (_, _, e, f, _) = rw (e, f) refl
 command_is words (Store object index value) (_, _, e, f, (a, _, e1, f1, (_, _, e2, f2, (v, _, e3, f3, _)))) =
     rw (e, f, e1, e2, e3, operand_is a object f1, f2.value, input_is v value f3) refl
+command_is words (RawStore object index value) (_, _, e, f, (a, _, e1, f1, (_, _, e2, f2, (v, _, e3, f3, _)))) =
+    rw (e, f, e1, e2, e3, operand_is a object f1, f2.value, input_is v value f3) refl
 command_is words (Load root object index) (_, _, e, f, (_, _, e1, f1, (a, _, e2, f2, (_, _, e3, f3, _)))) =
     rw (e, f, e1, e2, e3, f1.0, operand_is a object f2, f3.value) refl
 command_is words (Same left right) (_, _, e, f, (a, _, e1, f1, (b, _, e2, f2, _))) = rw (e, f, e1, e2, operand_is a left f1, operand_is b right f2) refl
+command_is words (Unprotect object) (_, _, e, f, (a, _, e1, f1, _)) = rw (e, f, e1, operand_is a object f1) refl
+command_is words Minor (_, _, e, f, _) = rw (e, f) refl
 command_is words Gc (_, _, e, f, _) = rw (e, f) refl
 
 -- a blank has no words of a command

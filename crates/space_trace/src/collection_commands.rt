@@ -9,6 +9,27 @@ use crate::line_buffer::{LineBuffer, put};
 use crate::words::next_word;
 use space_model::Command;
 
+/// The command of the words after `minor`.
+pub fn read_minor(rest: Option<&[u8]>) -> Option<Command>
+    ensures { ReadsWords (codes "minor" ∷ words_in rest.entry) result }
+{
+    if next_word(rest).is_some() {
+        return None;
+    }
+    Some(Command::Minor)
+}
+
+#[tactic(auto, using(crate::proofs::PieceLemmas::text_of_pieces_append, crate::proofs::PieceLemmas::spelled_append))]
+/// Puts the line of `minor` into an empty one.
+pub fn put_minor(line: &mut LineBuffer)
+    requires { line.old.items ≡ [] }
+    ensures items { line.new.items ≡ text_of_pieces (command_pieces Command.Minor) }
+    ensures len { array_vec_len line.new < 128 }
+    ensures spelled { IsSpelled (command_pieces Command.Minor) }
+{
+    put(line, b"minor");
+}
+
 /// The command of the words after `gc`.
 pub fn read_gc(rest: Option<&[u8]>) -> Option<Command>
     ensures { ReadsWords (codes "gc" ∷ words_in rest.entry) result }

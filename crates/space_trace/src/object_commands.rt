@@ -8,7 +8,7 @@ ghost use Rattle.space_trace.specs.WordsLeft.{words_in, ReadsWords};
 use crate::line_buffer::{LineBuffer, put, put_decimal};
 use crate::numbers::read_number;
 use crate::operands::{put_input, put_operand, read_input, read_operand};
-use crate::words::{three_words, two_words};
+use crate::words::{one_word, three_words, two_words};
 use space_model::{Command, Input, Operand};
 
 /// The command of the words after `store`.
@@ -42,6 +42,37 @@ pub fn put_store(line: &mut LineBuffer, object: Operand, index: u64, value: Inpu
     put_input(line, value);
 }
 
+/// The command of the words after `rawstore`.
+pub fn read_raw_store(rest: Option<&[u8]>) -> Option<Command>
+    ensures { ReadsWords (codes "rawstore" ∷ words_in rest.entry) result }
+{
+    let (object, index, value) = three_words(rest)?;
+    let object = read_operand(object)?;
+    let index = read_number(index)?;
+    let value = read_input(value)?;
+    Some(Command::RawStore {
+        object,
+        index,
+        value,
+    })
+}
+
+#[tactic(auto, using(crate::proofs::PieceLemmas::text_of_pieces_append, crate::proofs::PieceLemmas::spelled_append))]
+/// Puts the line of `rawstore` into an empty one.
+pub fn put_raw_store(line: &mut LineBuffer, object: Operand, index: u64, value: Input)
+    requires { line.old.items ≡ [] }
+    ensures items { line.new.items ≡ text_of_pieces (command_pieces (Command.RawStore object index value)) }
+    ensures len { array_vec_len line.new < 128 }
+    ensures spelled { IsSpelled (command_pieces (Command.RawStore object index value)) }
+{
+    put(line, b"rawstore ");
+    put_operand(line, object);
+    put(line, b" ");
+    put_decimal(line, index);
+    put(line, b" ");
+    put_input(line, value);
+}
+
 /// The command of the words after `same`.
 pub fn read_same(rest: Option<&[u8]>) -> Option<Command>
     ensures { ReadsWords (codes "same" ∷ words_in rest.entry) result }
@@ -64,4 +95,25 @@ pub fn put_same(line: &mut LineBuffer, left: Operand, right: Operand)
     put_operand(line, left);
     put(line, b" ");
     put_operand(line, right);
+}
+
+/// The command of the words after `unprotect`.
+pub fn read_unprotect(rest: Option<&[u8]>) -> Option<Command>
+    ensures { ReadsWords (codes "unprotect" ∷ words_in rest.entry) result }
+{
+    let object = one_word(rest)?;
+    let object = read_operand(object)?;
+    Some(Command::Unprotect { object })
+}
+
+#[tactic(auto, using(crate::proofs::PieceLemmas::text_of_pieces_append, crate::proofs::PieceLemmas::spelled_append))]
+/// Puts the line of `unprotect` into an empty one.
+pub fn put_unprotect(line: &mut LineBuffer, object: Operand)
+    requires { line.old.items ≡ [] }
+    ensures items { line.new.items ≡ text_of_pieces (command_pieces (Command.Unprotect object)) }
+    ensures len { array_vec_len line.new < 128 }
+    ensures spelled { IsSpelled (command_pieces (Command.Unprotect object)) }
+{
+    put(line, b"unprotect ");
+    put_operand(line, object);
 }

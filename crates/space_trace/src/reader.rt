@@ -4,9 +4,9 @@ ghost use Rattle.space_model.specs.declared.command.Command.{Command as TheComma
 ghost use Rattle.space_model.specs.Grammar.{without_cr, IsBlank, IsReading};
 ghost use Rattle.space_trace.specs.WordsLeft.{words_in, ReadsWords};
 
-use crate::collection_commands::read_gc;
+use crate::collection_commands::{read_gc, read_minor};
 use crate::new_command::read_new;
-use crate::object_commands::{read_same, read_store};
+use crate::object_commands::{read_raw_store, read_same, read_store, read_unprotect};
 use crate::root_commands::{read_drop, read_load, read_set};
 use crate::stack_commands::{read_pop, read_push, read_raw};
 use crate::words::next_word;
@@ -52,8 +52,11 @@ fn command_of_words(name: &[u8], rest: Option<&[u8]>) -> Option<Command>
         _ if name == b"raw".as_slice() => read_raw(rest),
         _ if name == b"pop".as_slice() => read_pop(rest),
         _ if name == b"store".as_slice() => read_store(rest),
+        _ if name == b"rawstore".as_slice() => read_raw_store(rest),
         _ if name == b"load".as_slice() => read_load(rest),
         _ if name == b"same".as_slice() => read_same(rest),
+        _ if name == b"unprotect".as_slice() => read_unprotect(rest),
+        _ if name == b"minor".as_slice() => read_minor(rest),
         _ if name == b"gc".as_slice() => read_gc(rest),
         _ => None,
     }

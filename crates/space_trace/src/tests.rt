@@ -6,7 +6,7 @@ use std::alloc::{AllocError as NoMemory, Global};
 use std::test::Fail;
 
 // The line, and how its command is spelled.
-const FORMS: [(&[u8], &[u8]); 27] = [
+const FORMS: [(&[u8], &[u8]); 32] = [
     (b"new a 3 P M", b"new a 3 P M\n"),
     (b"new a 79 P M", b"new a 79 P M\n"),
     (
@@ -28,6 +28,11 @@ const FORMS: [(&[u8], &[u8]); 27] = [
         b"store a 18446744073709551615 nil",
         b"store a 18446744073709551615 nil\n",
     ),
+    (
+        b"rawstore a 18446744073709551615 =5",
+        b"rawstore a 18446744073709551615 =5\n",
+    ),
+    (b"rawstore @2 00 b", b"rawstore @2 0 b\n"),
     (b"load a b 10", b"load a b 10\n"),
     (b"load a @007 1", b"load a @7 1\n"),
     (b"set a @0", b"set a @0\n"),
@@ -45,13 +50,16 @@ const FORMS: [(&[u8], &[u8]); 27] = [
     (b"pop", b"pop\n"),
     (b"same a b", b"same a b\n"),
     (b"same a b\r", b"same a b\n"),
+    (b"unprotect a", b"unprotect a\n"),
+    (b"unprotect @0", b"unprotect @0\n"),
+    (b"minor", b"minor\n"),
     (b"gc", b"gc\n"),
 ];
 
 // Lines without a command.
 const BLANK: [&[u8]; 5] = [b"", b"\r", b";", b"; a comment", b";same a b\r"];
 
-const MALFORMED: [&[u8]; 46] = [
+const MALFORMED: [&[u8]; 52] = [
     b" ",
     b" ; a comment",
     b"\r\r",
@@ -85,6 +93,11 @@ const MALFORMED: [&[u8]; 46] = [
     b"new a 3 u M",
     b"new a 3 P k",
     b"new a 3 PU M",
+    b"rawstore a 0",
+    b"rawstore nil 0 a",
+    b"unprotect",
+    b"unprotect nil",
+    b"unprotect a b",
     b"new a 000000000000000000001 P M",
     b"new a 0x1 P M",
     b"new nil 1 P M",
@@ -96,6 +109,7 @@ const MALFORMED: [&[u8]; 46] = [
     b"set a =",
     b"set a 1",
     b"get a",
+    b"minor a",
     b"gc ",
     b"gc a",
 ];

@@ -8,10 +8,10 @@ ghost use Rattle.space_model.specs.CommandTexts.{command_pieces};
 ghost use Rattle.space_model.specs.Spelling.{text_of_pieces, IsSpelled};
 ghost use Rattle.space_model.specs.Texts.{event_pieces, malformed_pieces, reply_pieces, line_of_pieces};
 
-use crate::collection_commands::put_gc;
+use crate::collection_commands::{put_gc, put_minor};
 use crate::line_buffer::LineBuffer;
 use crate::new_command::put_new;
-use crate::object_commands::{put_same, put_store};
+use crate::object_commands::{put_raw_store, put_same, put_store, put_unprotect};
 use crate::outputs::{put_event, put_malformed, put_reply};
 use crate::root_commands::{put_drop, put_load, put_set};
 use crate::stack_commands::{put_pop, put_push, put_raw};
@@ -44,12 +44,19 @@ fn put_command(line: &mut LineBuffer, command: Command)
             index,
             value,
         } => put_store(line, object, index, value),
+        Command::RawStore {
+            object,
+            index,
+            value,
+        } => put_raw_store(line, object, index, value),
         Command::Load {
             root,
             object,
             index,
         } => put_load(line, root, object, index),
         Command::Same { left, right } => put_same(line, left, right),
+        Command::Unprotect { object } => put_unprotect(line, object),
+        Command::Minor => put_minor(line),
         Command::Gc => put_gc(line),
     }
 }

@@ -16,7 +16,7 @@ ghost use Rattle.space_engine.specs.Views.{View, with_root_dropped, with_root_wr
 use super::{Answer, Engine, silent};
 use space_heap::{Made, PageFault};
 use space_io::{Sink, WriteFault};
-use space_model::{Guard, Ident, Ledger, MOST_FIELDS, Refusal, Reply, Steps, Style, pool_for};
+use space_model::{Guard, Ident, Kind, Ledger, MOST_FIELDS, Refusal, Reply, Steps, Style, pool_for};
 use std::alloc::AllocError as NoMemory;
 
 impl Engine {
@@ -125,7 +125,7 @@ impl Engine {
         ensures turn { IsOneTurn self.old.heap self.new.heap }
         ensures steps { RisesByFewer steps.old steps.new }
     {
-        let collected = self.collect_whole(sink, steps);
+        let collected = self.collect_and_tell(Kind::Full, sink, steps);
 
         // This comes also after a failed write: the command is done then too, so the state after it is the same whether or not
         // its lines were written.

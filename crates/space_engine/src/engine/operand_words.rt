@@ -4,7 +4,7 @@ ghost use Rattle.space_model.specs.RootCommands.{field_value};
 ghost use Rattle.space_model.specs.Operands.{input_value, named_by, operand_value, word_value};
 ghost use Rattle.space_model.specs.CommandTexts.{IsWritableInput};
 ghost use Rattle.space_model.specs.State.{State};
-ghost use Rattle.space_heap.specs.Objects.{is_occupied, object_of};
+ghost use Rattle.space_heap.specs.Objects.{is_occupied, is_object, object_of};
 ghost use Rattle.space_engine.specs.Stands.{Holds};
 ghost use Rattle.space_engine.specs.Words.{operand_word, word_result, owner_of_field, field_word};
 
@@ -84,6 +84,7 @@ impl Engine {
     pub fn owner_of(&self, word: u64, index: u64) -> Result<u64, Refusal>
         ensures owner { result ≡ owner_of_field self.now.heap word index }
         ensures there { IfOk result (λ address. is_occupied self.now.heap address ≡ true) }
+        ensures object { IfOk result (λ address. is_object self.now.heap address ≡ true) }
         ensures field { IfOk result (λ address. index < length (object_of self.now.heap address).fields) }
     {
         match self.heap.object_at(word) {

@@ -31,13 +31,19 @@ impl Engine {
                 index,
                 value,
             } => self.store(object, *index, value),
+            Command::RawStore {
+                object,
+                index,
+                value,
+            } => self.raw_store(object, *index, value),
             Command::Load {
                 root,
                 object,
                 index,
             } => self.load(root, object, *index, steps),
             Command::Same { left, right } => self.compare(left, right),
-            Command::New { .. } | Command::Gc => unreachable!(),
+            Command::Unprotect { object } => self.unprotect(object),
+            Command::New { .. } | Command::Minor | Command::Gc => unreachable!(),
         }
     }
 }
