@@ -5,13 +5,15 @@ use Rattle.std.proofs.lemmas.Bool.{and_parts}
 use Rattle.space_model.specs.declared.event.Kind.{Kind}
 use Rattle.space_model.specs.declared.phase.Phase.TheVariants.{Idle, Sweeping}
 use Rattle.space_model.specs.Layout.{page_of}
+use Rattle.space_heap.specs.Slots.{ObjectView}
 use Rattle.space_heap.specs.HeapView.{Counters, HeapView, pool_at, is_unswept}
 use Rattle.space_heap.specs.Objects.{HasNoMoved}
 use Rattle.space_heap.specs.SoundHeap.{IsSoundHeap}
-use Rattle.space_heap.specs.Sweeping.{phase_with, pooled_pages, minors_after, others_after, settled}
+use Rattle.space_heap.specs.Sweeping.{phase_with, pooled_pages, minors_after, others_after, settled, HasNoGone}
 use Rattle.space_heap.proofs.FreeLaws.{is_moved-settled}
 use Rattle.space_heap.proofs.SettledLaws.{colour_of-settled, grey-settled, pool_at-settled, is_unswept-settled, unswept-settled, phase-settled, counters-settled, count-settled, limit-settled}
 use Rattle.space_heap.proofs.SweptPages.{occupied_pooled}
+use Rattle.space_tracing.specs.Graph.{SameGraph}
 use Rattle.space_collector.specs.HeapVerdicts.{IsHeapVerdict}
 use Rattle.space_collector.specs.Quiescent.{HasNoGrey, IsQuiescent}
 
@@ -23,6 +25,11 @@ all_wait-settled v kind page e = is_unswept-settled v kind page ∙ ap is_some (
 grey_none-settled : (v : HeapView) (kind : Kind) → HasNoGrey v → HasNoGrey (settled v kind)
 grey_none-settled v kind none =
     record { listed = grey-settled v kind ∙ none.listed; objects = λ a grey. none.objects a (sym (colour_of-settled v kind a) ∙ grey) }
+
+-- a marking leaves none gone where none was
+pub none_gone_marked : (old marked : HeapView) → SameGraph old marked → HasNoGone old → HasNoGone marked
+none_gone_marked old marked same none a e =
+    ap (λ (o : ObjectView). o.gone) (same.objects a) ∙ none a (sym (same.standing a) ∙ e)
 
 none_wait : (pages : List ℕ) → phase_with pages ≢ Sweeping → pages ≡ []
 none_wait [] other = refl
@@ -46,7 +53,7 @@ phase_is : (pages : List ℕ) → (phase_with pages ≡ Idle) ⊎ (phase_with pa
 phase_is [] = inl refl
 phase_is (page ∷ pages) = inr refl
 
-module _ (old new : HeapView) (kind : Kind) (IsKept : ℕ → Type 0) (h : IsHeapVerdict old new kind IsKept) where
+module _ (old new : HeapView) (kind : Kind) (roots stack : List ℕ) (scans : ℕ) (h : IsHeapVerdict old new kind roots stack scans) where
   -- the counters with one more verdict of the kind
   abbrev pub counted_after : Counters → Counters
   counted_after c = record c { minor_verdicts = minors_after kind c.minor_verdicts; other_verdicts = others_after kind c.other_verdicts }
@@ -56,13 +63,13 @@ module _ (old new : HeapView) (kind : Kind) (IsKept : ℕ → Type 0) (h : IsHea
   counters-verdict =
       ap (λ (w : HeapView). w.counters) h.settles
       ∙ counters-settled h.marked kind
-      ∙ ap counted_after h.same.counters
+      ∙ ap counted_after h.marking.same.counters
 
   pub count-verdict : length new.pages ≡ length old.pages
-  count-verdict = ap (λ (w : HeapView). length w.pages) h.settles ∙ count-settled h.marked kind ∙ h.same.count
+  count-verdict = ap (λ (w : HeapView). length w.pages) h.settles ∙ count-settled h.marked kind ∙ h.marking.same.count
 
   pub limit-verdict : new.limit ≡ old.limit
-  limit-verdict = ap (λ (w : HeapView). w.limit) h.settles ∙ limit-settled h.marked kind ∙ h.same.limit
+  limit-verdict = ap (λ (w : HeapView). w.limit) h.settles ∙ limit-settled h.marked kind ∙ h.marking.same.limit
 
   -- pages wait after it, or nothing is under way
   pub phase-verdict : (new.phase ≡ Idle) ⊎ (new.phase ≡ Sweeping)

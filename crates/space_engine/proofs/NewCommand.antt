@@ -1,8 +1,8 @@
 -- What `new` answers, and the states after it.
-use Rattle.std.proofs.Common.{◌≡◌, ℕ, ◌+◌, ◌<◌, ◌≤◌, ◌^◌, Bool, List, [], ◌∷◌, ◌++◌, length, map, refl, sym, ap, ◌∙◌, subst, arith, None, Option, inl, inr, if◌then◌else◌}
+use Rattle.std.proofs.Common.{◌≡◌, ◌≢◌, ℕ, ◌+◌, ◌<◌, ◌≤◌, ◌^◌, Bool, List, [], ◌∷◌, ◌++◌, length, map, refl, sym, ap, ◌∙◌, subst, arith, None, Option, inl, inr, if◌then◌else◌}
 use Rattle.space_model.specs.declared.command.Command.TheVariants.{New}
 use Rattle.space_model.specs.declared.event.Event.TheVariants.{Gone, Verdict}
-use Rattle.space_model.specs.declared.event.Kind.TheVariants.{Full}
+use Rattle.space_model.specs.declared.event.Kind.TheVariants.{Major, Full}
 use Rattle.space_model.specs.declared.object.Guard.{Guard}
 use Rattle.space_model.specs.declared.object.Style.{Style}
 use Rattle.space_model.specs.declared.reply.Refusal.TheVariants.{TooLarge}
@@ -27,13 +27,16 @@ use Rattle.space_engine.specs.Steps.{AnswersWith}
 use Rattle.space_engine.specs.Ticks.{IsMarkingTicked, IsTicked}
 use Rattle.space_engine.specs.Turns.{CanAnswer}
 use Rattle.space_engine.specs.Views.{View, with_heap, with_root_dropped}
-use Rattle.space_engine.specs.WholeCollections.{IsWholeCollection, IsToldCollection, IsCutCollection, IsOneVerdict}
+use Rattle.space_engine.specs.HeapCollections.{IsHeapCollection, IsToldCollection, IsCutCollection, IsOneVerdict}
 use Rattle.space_engine.proofs.CollectionCommands.{state_idle}
 use Rattle.space_engine.proofs.Collecting.{CollectsTo, collects_to, collection_spelled, counted_names}
 use Rattle.space_engine.proofs.NewPlaces.{IsFullState, made_from, full_state, needs_page}
 use Rattle.space_engine.proofs.NewStages.{finds_at_once, finds_late, finds_none}
 use Rattle.space_engine.proofs.Reading.{root_absent}
 use Rattle.space_engine.proofs.ReservedRoots.{heap_reserved, allocated_reserved, dropped_reserved, collection_reserved}
+
+not_major : Full ≢ Major
+not_major e = cc
 
 module _ (root : List ℕ) (fields : ℕ) (guard : Guard) (style : Style) where
   -- an object can't have so many fields
@@ -93,13 +96,13 @@ module _ (root : List ℕ) (fields : ℕ) (guard : Guard) (style : Style) where
     able_before = subst CanAnswer same_heap able
 
     module _ (w : View) (z : HeapView) (sound_after : IsSoundHeap z) (scans : ℕ) (names : List ℕ)
-        (c : IsWholeCollection r.heap z (root_words r.roots) r.stack scans names) where
+        (c : IsHeapCollection r.heap z Full (root_words r.roots) r.stack scans names) where
       module _ (s : State) (h : Holds v s) where
-        its : IsWholeCollection v.heap z (root_words v.roots) v.stack scans names
+        its : IsHeapCollection v.heap z Full (root_words v.roots) v.stack scans names
         its = collection_reserved v s h r root is_new reserved z scans names c
 
-        to : CollectsTo v s z scans names
-        to = collects_to v s h (state_idle v s h able_before.collect.idle) z scans names its
+        to : CollectsTo v s z Full scans names
+        to = collects_to v s h (state_idle v s h able_before.collect.idle) z Full not_major scans names its
 
         full_before : IsFullState s (pool_for fields)
         full_before = full_state v s (pool_for fields) h.represents (subst IsSoundHeap same_heap sound)
@@ -176,7 +179,7 @@ module _ (root : List ℕ) (fields : ℕ) (guard : Guard) (style : Style) where
           IsLawfulAnswer v w (New root fields guard style) (verdict_events Full names) reply
       lawful reply last = record {
         answers = λ s h. late s h reply last;
-        spelled = λ s h. collection_spelled v s h (state_idle v s h able_before.collect.idle) z scans names (its s h) able_before.born;
+        spelled = λ s h. collection_spelled v s h (state_idle v s h able_before.collect.idle) z Full not_major scans names (its s h) able_before.born;
       }
 
     -- a verdict tells something
@@ -186,12 +189,12 @@ module _ (root : List ℕ) (fields : ℕ) (guard : Guard) (style : Style) where
     ticked_events s (name ∷ names) k reply ticks ticked t = t
 
     pub answered_late : (w : View) (z : HeapView) → IsSoundHeap z → (scans gone : ℕ) (reply : Reply) (before after : Option (List ℕ)) (ticks ticked : ℕ) →
-        IsToldCollection r.heap z (root_words r.roots) r.stack scans gone before after → ticked ≡ ticks + scans →
+        IsToldCollection r.heap z Full (root_words r.roots) r.stack scans gone before after → ticked ≡ ticks + scans →
         IsLastReply (with_heap r z) w root is_new fields guard style reply → IsAnswered v w (New root fields guard style) reply gone before after ticks ticked
     answered_late w z sound_after scans gone reply before after ticks ticked told rose last = record {
       events = verdict_events Full told.names;
       lawful = lawful w z sound_after scans told.names told.collects reply last;
-      counted = counted_names told.names (length told.names) ∙ ap (λ n. record no_counts { gone = n }) (sym told.many);
+      counted = counted_names Full told.names (length told.names) ∙ ap (λ n. record no_counts { gone = n }) (sym told.many);
       written = told.written;
       ticks_are = λ s h.
           ticked_events s told.names (length told.names) reply ticks ticked (late_ticked w z sound_after scans told.names told.collects s h ticks ticked rose);
@@ -210,8 +213,8 @@ module _ (root : List ℕ) (fields : ℕ) (guard : Guard) (style : Style) where
     late_spelled w z (Scanned count) few last = absurd last
     late_spelled w z (Refused why) few last = absurd last
 
-    pub cut_off_late : (w : View) (z : HeapView) → IsSoundHeap z → (reply : Reply) (before after : Option (List ℕ)) → IsOneVerdict r.heap z →
-        IsCutCollection r.heap z (root_words r.roots) r.stack before after →
+    pub cut_off_late : (w : View) (z : HeapView) → IsSoundHeap z → (reply : Reply) (before after : Option (List ℕ)) → IsOneVerdict r.heap z Full →
+        IsCutCollection r.heap z Full (root_words r.roots) r.stack before after →
         IsLastReply (with_heap r z) w root is_new fields guard style reply → IsCutOff v w (New root fields guard style) before after
     cut_off_late w z sound_after reply before after one cut last = record {
       events = verdict_events Full cut.names;

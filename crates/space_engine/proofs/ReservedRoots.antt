@@ -2,6 +2,7 @@
 use Rattle.std.proofs.Common.{◌≡◌, ℕ, List, [], ◌∷◌, ◌++◌, Bool, true, false, None, refl, sym, ap, ◌∙◌, subst, IsTrue, if◌then◌else◌, ⊎_elim, inl, inr}
 use Rattle.std.proofs.lemmas.Bool.{eqb-true, or_cases, false≢true}
 use Rattle.std.proofs.lemmas.List.{map-append}
+use Rattle.space_model.specs.declared.event.Kind.TheVariants.{Full}
 use Rattle.space_model.specs.declared.object.Guard.{Guard}
 use Rattle.space_model.specs.declared.object.Style.{Style}
 use Rattle.space_model.specs.State.{State}
@@ -10,14 +11,16 @@ use Rattle.space_model.proofs.Reaching.{IsReached-start, IsReached-mono}
 use Rattle.space_model.proofs.WholeLaws.{counted_also}
 use Rattle.space_heap.specs.Allocations.{IsAllocation}
 use Rattle.space_heap.specs.HeapView.{HeapView}
+use Rattle.space_heap.specs.Marking.{unmarked}
 use Rattle.space_heap.specs.Objects.{is_object}
 use Rattle.space_tracing.specs.Graph.{IsChild, IsNamed, IsStart, IsLive}
+use Rattle.space_tracing.proofs.Noted.{noted_by}
 use Rattle.space_roots.specs.WordRoots.{root_word, root_words}
 use Rattle.space_roots.proofs.RootLemmas.{with_root_word-reserved, without_root-reserved}
 use Rattle.space_engine.specs.Allocations.{IsReserved, IsRootedAllocation}
 use Rattle.space_engine.specs.Stands.{Holds}
 use Rattle.space_engine.specs.Views.{View, with_heap, with_root_dropped, with_root_reserved, with_root_written}
-use Rattle.space_engine.specs.WholeCollections.{IsWholeCollection}
+use Rattle.space_engine.specs.HeapCollections.{IsHeapCollection}
 use Rattle.space_engine.proofs.FieldWords.{nothing_at_zero}
 
 module _ (v : View) (root : List ℕ) where
@@ -86,10 +89,10 @@ named_before heap words none n (is, m) = (
 named_after : (heap : HeapView) (words : List ℕ) (n : ℕ) → IsNamed heap words n → IsNamed heap (words ++ 0 ∷ []) n
 named_after heap words n (is, m) = (is, member_left words (0 ∷ []) n m)
 
--- a whole collection from words that lead to the same objects
+-- a full collection from words that lead to the same objects
 same_collection : (old new : HeapView) (roots others stack : List ℕ) (scans : ℕ) (names : List ℕ) → ((n : ℕ) → IsNamed old roots n → IsNamed old others n) →
     ((n : ℕ) → IsNamed old others n → IsNamed old roots n) →
-    IsWholeCollection old new roots stack scans names → IsWholeCollection old new others stack scans names
+    IsHeapCollection old new Full roots stack scans names → IsHeapCollection old new Full others stack scans names
 same_collection old new roots others stack scans names there back c =
     let to = live_more old roots others stack there in
     let from = live_more old others roots stack back in
@@ -97,13 +100,16 @@ same_collection old new roots others stack scans names there back c =
       settled = c.settled;
       verdict = record {
         marked = c.verdict.marked;
-        same = c.verdict.same;
-        marks = λ a. ((λ m. to a ((c.verdict.marks a).0 m)), (λ l. (c.verdict.marks a).1 (from a l)));
-        none_grey = c.verdict.none_grey;
+        marking = let m = c.verdict.marking in record {
+          same = m.same;
+          marks = λ ready a. ((λ x. to a ((m.marks ready a).0 x)), (λ l. (m.marks ready a).1 (from a l)));
+          notes = noted_by (unmarked old) c.verdict.marked (IsLive old roots stack) (IsLive old others stack) to from m.notes;
+          scanned = counted_also (IsLive old roots stack) (IsLive old others stack) scans (λ a. ((λ l. to a l), (λ l. from a l))) m.scanned;
+          none_grey = m.none_grey;
+        };
         settles = c.verdict.settles;
         sound = c.verdict.sound;
       };
-      scanned = counted_also (IsLive old roots stack) (IsLive old others stack) scans (λ a. ((λ l. to a l), (λ l. from a l))) c.scanned;
       few = c.few;
       names_are = c.names_are;
       swept = c.swept;
@@ -112,17 +118,17 @@ same_collection old new roots others stack scans names there back c =
 -- the place that is made for a root has no part in a collection
 
 collection_before : (v : View) (root : List ℕ) (is_new : Bool) (z : HeapView) (scans : ℕ) (names : List ℕ) → is_object v.heap 0 ≡ false →
-    IsWholeCollection v.heap z (root_words (with_root_reserved v root is_new).roots) v.stack scans names →
-    IsWholeCollection v.heap z (root_words v.roots) v.stack scans names
+    IsHeapCollection v.heap z Full (root_words (with_root_reserved v root is_new).roots) v.stack scans names →
+    IsHeapCollection v.heap z Full (root_words v.roots) v.stack scans names
 collection_before v root true z scans names none c =
     same_collection v.heap z (root_words v.roots ++ 0 ∷ []) (root_words v.roots) v.stack scans names (named_before v.heap (root_words v.roots) none)
     (named_after v.heap (root_words v.roots))
-    (subst (λ words. IsWholeCollection v.heap z words v.stack scans names) (map-append (λ (root : List ℕ × ℕ). root.1) v.roots ((root, 0) ∷ [])) c)
+    (subst (λ words. IsHeapCollection v.heap z Full words v.stack scans names) (map-append (λ (root : List ℕ × ℕ). root.1) v.roots ((root, 0) ∷ [])) c)
 collection_before v root false z scans names none c = c
 
 pub collection_reserved : (v : View) (s : State) → Holds v s → (r : View) (root : List ℕ) (is_new : Bool) → IsReserved v r root is_new →
     (z : HeapView) (scans : ℕ) (names : List ℕ) →
-    IsWholeCollection r.heap z (root_words r.roots) r.stack scans names → IsWholeCollection v.heap z (root_words v.roots) v.stack scans names
+    IsHeapCollection r.heap z Full (root_words r.roots) r.stack scans names → IsHeapCollection v.heap z Full (root_words v.roots) v.stack scans names
 collection_reserved v s h r root is_new reserved z scans names c =
     collection_before v root is_new z scans names (nothing_at_zero v s h)
-    (subst (λ (r : View). IsWholeCollection r.heap z (root_words r.roots) r.stack scans names) reserved.becomes c)
+    (subst (λ (r : View). IsHeapCollection r.heap z Full (root_words r.roots) r.stack scans names) reserved.becomes c)

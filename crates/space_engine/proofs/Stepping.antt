@@ -5,7 +5,7 @@ use Rattle.std.proofs.KnownBytes.{Appends-nil, Appends-trans}
 use Rattle.space_io.specs.Sinks.{AppendsPrefix}
 use Rattle.std.proofs.lemmas.List.{append-nil}
 use Rattle.space_model.specs.declared.command.Command.{Command}
-use Rattle.space_model.specs.declared.command.Command.TheVariants.{New, Load, Gc}
+use Rattle.space_model.specs.declared.command.Command.TheVariants.{New, Load, Minor, Gc}
 use Rattle.space_model.specs.declared.event.Event.{Event}
 use Rattle.space_model.specs.declared.reply.Reply.{Reply}
 use Rattle.space_model.specs.declared.reply.Reply.TheVariants.{Made, Full, NoMemory, Done, Pushed, Read, Truth, Scanned, Refused}
@@ -43,6 +43,7 @@ answered_silently old new command reply known ticks ticked answer rose = record 
 reply_ticked : (s : State) (command : Command) (reply : Reply) (ticks ticked : ℕ) → IsQuiet command → IsReplyTicked command reply ticks ticked →
     IsTicked s command [] reply ticks ticked
 reply_ticked s (New root fields guard style) reply ticks ticked quiet rose = absurd quiet
+reply_ticked s Minor reply ticks ticked quiet rose = absurd quiet
 reply_ticked s Gc reply ticks ticked quiet rose = absurd quiet
 reply_ticked s command reply ticks ticked quiet rose = rose
 

@@ -2,6 +2,8 @@
 use Rattle.std.proofs.Common.{◌≡◌, ◌≢◌, ℕ, ◌+◌, ◌≤◌, Bool, true, false, List, length, nat_eq, refl, sym, ap, ◌∙◌, subst, arith, ⊎_elim, if◌then◌else◌}
 use Rattle.std.specs.Set.{is_member}
 use Rattle.std.proofs.lemmas.Bool.{cases_eq}
+use Rattle.space_model.specs.declared.event.Kind.{Kind}
+use Rattle.space_model.specs.declared.event.Kind.TheVariants.{Minor, Major, Full as FullKind}
 use Rattle.space_model.specs.declared.object.Guard.{Guard}
 use Rattle.space_model.specs.declared.object.Style.{Style}
 use Rattle.space_model.specs.declared.reply.Reply.{Reply}
@@ -14,14 +16,14 @@ use Rattle.space_heap.specs.Objects.{is_moved, placed, written}
 use Rattle.space_heap.specs.Allocations.{IsAllocation}
 use Rattle.space_heap.specs.Marking.{colour_of}
 use Rattle.space_heap.specs.NewPages.{IsLeastSpare}
-use Rattle.space_heap.specs.Sweeping.{is_gone}
+use Rattle.space_heap.specs.Sweeping.{is_gone, minors_after, others_after}
 use Rattle.space_heap.proofs.FreeLaws.{is_moved-with_object, is_moved-placed, is_moved-with_page}
 use Rattle.space_heap.proofs.GoneLaws.{is_gone-with_object, is_gone-placed, is_gone-with_page}
 use Rattle.space_heap.proofs.NewPageLaws.{object_of-with_page}
 use Rattle.space_heap.proofs.NewPageSlots.{rest-with_page}
 use Rattle.space_heap.proofs.ObjectLaws.{stays, rest-with_object, counters-placed, grey-placed, phase-placed, unswept-placed, object_of-placed_same, object_of-placed_other}
 use Rattle.space_collector.specs.Quiescent.{IsQuiescent}
-use Rattle.space_engine.specs.WholeCollections.{IsOneVerdict}
+use Rattle.space_engine.specs.HeapCollections.{IsOneVerdict}
 use Rattle.space_engine.specs.Allocations.{IsLastReply}
 use Rattle.space_engine.specs.Turns.{IsAtRest, IsOneTurn}
 use Rattle.space_engine.specs.Views.{View, with_root_dropped}
@@ -149,7 +151,7 @@ module _ (v w : HeapView) (fields : ℕ) (guard : Guard) (style : Style) (name a
       }
 
   -- and before that a verdict was done
-  turn_late : (before : HeapView) → IsOneVerdict before v → IsOneTurn before w
+  turn_late : (before : HeapView) → IsOneVerdict before v FullKind → IsOneTurn before w
   turn_late before one =
       let born = ap (λ (c : Counters). c.born) counters_allocated in
       let minors = ap (λ (c : Counters). c.minor_verdicts) counters_allocated in
@@ -168,12 +170,26 @@ module _ (v w : HeapView) (fields : ℕ) (guard : Guard) (style : Style) (name a
         rests = λ rests. rests_allocated one.idle;
       }
 
+-- a verdict is counted once at most
+
+minors_few : (kind : Kind) (n : ℕ) → minors_after kind n ≤ n + 1
+minors_few Minor n = omega arith
+minors_few Major n = omega arith
+minors_few FullKind n = omega arith
+
+others_few : (kind : Kind) (n : ℕ) → others_after kind n ≤ n + 1
+others_few Minor n = omega arith
+others_few Major n = omega arith
+others_few FullKind n = omega arith
+
 -- a verdict alone
-pub turn_verdict : (v w : HeapView) → IsOneVerdict v w → IsOneTurn v w
-turn_verdict v w one =
+pub turn_verdict : (v w : HeapView) (kind : Kind) → IsOneVerdict v w kind → IsOneTurn v w
+turn_verdict v w kind one =
     let born = one.born in
     let minors = one.minor_verdicts in
     let others = one.other_verdicts in
+    let few_minors = minors_few kind v.counters.minor_verdicts in
+    let few_others = others_few kind v.counters.other_verdicts in
     record {
       born = omega arith;
       minor_verdicts = omega arith;
@@ -185,12 +201,12 @@ turn_verdict v w one =
 
 -- a verdict, and then an allocation or none
 pub turn_last : (before : HeapView) (v w : View) (root : List ℕ) (is_new : Bool) (fields : ℕ) (guard : Guard) (style : Style) (reply : Reply) →
-    IsOneVerdict before v.heap → IsLastReply v w root is_new fields guard style reply → IsOneTurn before w.heap
+    IsOneVerdict before v.heap FullKind → IsLastReply v w root is_new fields guard style reply → IsOneTurn before w.heap
 turn_last before v w root is_new fields guard style (Made name address) one last =
     turn_late v.heap w.heap fields guard style name address last.allocation before one
 turn_last before v w root is_new fields guard style Full one last = subst (λ (w : View). IsOneTurn before w.heap) (sym last.1) (dropped is_new)
   where
     dropped : (is_new : Bool) → IsOneTurn before (if is_new then with_root_dropped v root else v).heap
-    dropped true = turn_verdict before v.heap one
-    dropped false = turn_verdict before v.heap one
+    dropped true = turn_verdict before v.heap FullKind one
+    dropped false = turn_verdict before v.heap FullKind one
 turn_last before v w root is_new fields guard style _ one last = absurd last

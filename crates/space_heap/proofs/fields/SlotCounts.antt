@@ -59,15 +59,15 @@ few_in_sound v sound = λ places once standing.
     let most = sound.most in
     omega arith
   where
-    narrow : (page : ℕ) → length (page_at v page).slots ≤ 1638
-    narrow page = narrow_pool page (page_at v page).pool refl
-
     narrow_pool : (page : ℕ) (pool : Option ℕ) → pool_at v page ≡ pool → length (page_at v page).slots ≤ 1638
     narrow_pool page None e = let none = sound.spare page e in omega arith
     narrow_pool page (Some pool) e =
         let long = sound.long page pool e in
         let few = few_slots pool (sound.known page pool e) in
         omega arith
+
+    narrow : (page : ℕ) → length (page_at v page).slots ≤ 1638
+    narrow page = narrow_pool page (page_at v page).pool refl
 
 module _ (v : PoolsView) (ms : List Marks) (rest : Rest) (sound : IsSoundPools v) where
   abbrev h : HeapView

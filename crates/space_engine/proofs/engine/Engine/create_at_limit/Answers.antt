@@ -11,7 +11,7 @@ pub returns-in_err-gone-clause-fault : goal.returns-in_err-gone-clause-fault
 returns-in_err-gone-clause-fault g c = λ v reserved.
     let a = c.args in
     let need = c.requires in
-    let first = c.collect_whole-collected in
+    let first = c.collect_and_tell-collected in
     let second = c.allocate_at_limit-reply in
     let last = subst (λ (u : View). IsLastReply u second.new.self a.root.now a.is_new a.fields a.guard a.style second.result)
     first.ensures.rest second.ensures.last in
@@ -22,7 +22,7 @@ returns-in_err-gone-clause-fault g c = λ v reserved.
 pub returns-in_err-gone-clause-turn : goal.returns-in_err-gone-clause-turn
 returns-in_err-gone-clause-turn g c =
     let a = c.args in
-    let first = c.collect_whole-collected in
+    let first = c.collect_and_tell-collected in
     let second = c.allocate_at_limit-reply in
     turn_last a.self.now.heap first.new.self second.new.self a.root.now a.is_new a.fields a.guard a.style second.result
     first.ensures.one_verdict second.ensures.last
@@ -31,7 +31,7 @@ pub returns-clause-done : goal.returns-clause-done
 returns-clause-done g c = λ v reserved.
     let a = c.args in
     let need = c.requires in
-    let first = c.collect_whole-collected in
+    let first = c.collect_and_tell-collected in
     let second = c.allocate_at_limit-reply in
     let told = c.in_ok-gone in
     let last = subst (λ (u : View). IsLastReply u second.new.self a.root.now a.is_new a.fields a.guard a.style second.result)
@@ -43,7 +43,7 @@ returns-clause-done g c = λ v reserved.
 pub returns-clause-turn : goal.returns-clause-turn
 returns-clause-turn g c =
     let a = c.args in
-    let first = c.collect_whole-collected in
+    let first = c.collect_and_tell-collected in
     let second = c.allocate_at_limit-reply in
     turn_last a.self.now.heap first.new.self second.new.self a.root.now a.is_new a.fields a.guard a.style second.result
     first.ensures.one_verdict second.ensures.last
