@@ -1,5 +1,5 @@
 -- A marking and its verdict on the heap are a verdict of the state, with its number of scans.
-use Rattle.std.proofs.Common.{◌≡◌, ◌≢◌, ℕ, List, [], length, refl, sym, ap, ◌∙◌, subst, inl}
+use Rattle.std.proofs.Common.{◌≡◌, ◌≢◌, ℕ, List, [], length, refl, sym, ◌∙◌, subst, inl}
 use Rattle.std.specs.FinMap.{empty}
 use Rattle.std.proofs.lemmas.Bool.{false_from_ne_true}
 use Rattle.space_model.specs.declared.event.Kind.{Kind}

@@ -1,11 +1,11 @@
 -- Membership in the lists of generations: the children of old names, and the names with a child that isn't old.
-use Rattle.std.proofs.Common.{◌≡◌, ℕ, ◌&&◌, not, Bool, true, false, nat_le, List, [], ◌∷◌, nat_eq, refl, sym, ap, ◌∙◌, subst, Some, ⊎_elim}
+use Rattle.std.proofs.Common.{◌≡◌, ℕ, ◌&&◌, not, Bool, true, false, nat_le, List, [], ◌∷◌, nat_eq, refl, sym, ap, ◌∙◌, Some, ⊎_elim}
 use Rattle.std.specs.Prelude.{is_some}
 use Rattle.std.specs.List.{list_any}
 use Rattle.std.specs.Ordering.{nat_cmp}
 use Rattle.std.specs.Set.{is_member}
 use Rattle.std.specs.FinMap.{FinMap, get, keys}
-use Rattle.std.proofs.lemmas.Bool.{and_parts, and_from, or_cases, or_left, or_right, or_parts, eqb-true, eq-eqb, false≢true, not-true}
+use Rattle.std.proofs.lemmas.Bool.{and_parts, and_from, or_cases, or_left, or_right, eqb-true, eq-eqb, false≢true, not-true}
 use Rattle.space_model.specs.Ages.{is_protected, outlived_by, is_old_in}
 use Rattle.space_model.specs.Graph.{Item, children, IsChild}
 use Rattle.space_model.specs.Kept.{unprotected_children}

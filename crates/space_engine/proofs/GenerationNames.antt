@@ -1,9 +1,9 @@
 -- The heap's words against names, where no object was moved: children, ages, and what a minor marking rests on.
-use Rattle.std.proofs.Common.{◌≡◌, ℕ, ◌&&◌, Bool, true, false, true≢false, nat_le, nat_lt, min, List, [], ◌∷◌, nat_eq, refl, sym, ap, ◌∙◌, subst, arith, Some, ⊎_elim, inl, inr, if◌then◌else◌}
+use Rattle.std.proofs.Common.{◌≡◌, ℕ, ◌&&◌, Bool, true, false, true≢false, nat_le, nat_lt, min, List, [], ◌∷◌, nat_eq, refl, sym, ap, ◌∙◌, subst, arith, Some, ⊎_elim, inl, if◌then◌else◌}
 use Rattle.std.specs.Ordering.{nat_cmp}
 use Rattle.std.specs.Set.{is_member}
 use Rattle.std.specs.FinMap.{FinMap, get, empty}
-use Rattle.std.proofs.lemmas.Bool.{cases_Bool, and_parts, and_from, or_cases, or_left, or_right, or_parts, eqb-true, eq-eqb, false≢true}
+use Rattle.std.proofs.lemmas.Bool.{cases_Bool, and_parts, and_from, or_cases, or_left, or_right, eqb-true, eq-eqb, false≢true}
 use Rattle.std.proofs.lemmas.Bool.Decides.{nat_tests}
 use Rattle.space_model.specs.declared.event.Kind.{Kind}
 use Rattle.space_model.specs.declared.event.Kind.TheVariants.{Minor, Major, Full}
@@ -43,17 +43,10 @@ held_stands v a h = ⊎_elim
 least : (n : ℕ) → nat_le 3 (min n 3) ≡ nat_le 3 n
 least n = grind (arith, nat_tests)
 
-least_aged : (n : ℕ) → nat_le 2 (min n 3) ≡ nat_le 2 n
-least_aged n = grind (arith, nat_tests)
-
 old_by : (p : Bool) (guard : Guard) (age n : ℕ) → is_protected_guard guard ≡ p → age ≡ (if p then min n 3 else 0) →
     (is_protected_guard guard && nat_le 3 age) ≡ (p && nat_le 3 n)
 old_by true guard age n e f = (λ i. e i && nat_le 3 (f i)) ∙ least n
 old_by false guard age n e f = ap (λ b. b && nat_le 3 age) e
-
-aged_by : (p : Bool) (age n : ℕ) → age ≡ (if p then min n 3 else 0) → nat_le 2 age ≡ (p && nat_le 2 n)
-aged_by true age n f = ap (nat_le 2) f ∙ least_aged n
-aged_by false age n f = ap (nat_le 2) f
 
 module _ (graph : List Item) (place : FinMap nat_cmp ℕ) (outlived : List ℕ) (heap : HeapView) (ages : HasAges graph place outlived heap) where
   -- the object of a name is old where the name is
@@ -63,11 +56,6 @@ module _ (graph : List Item) (place : FinMap nat_cmp ℕ) (outlived : List ℕ) 
       old_by (is_protected graph name) (object_of heap address).guard (object_of heap address).age (outlived_by outlived name) (ap is_protected_guard guard)
       (ages name address at)
       ∙ sym (is_old_in-at graph place outlived name address at)
-
-  -- and it has age 2 or more where the name is protected and outlived two verdicts
-  pub is_aged-named : (name address : ℕ) → get place name ≡ Some address →
-      is_aged (object_of heap address) ≡ (is_protected graph name && nat_le 2 (outlived_by outlived name))
-  is_aged-named name address at = aged_by (is_protected graph name) (object_of heap address).age (outlived_by outlived name) (ages name address at)
 
 -- words that name protected objects of age 0 or 1
 

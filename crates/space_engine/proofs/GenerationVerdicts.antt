@@ -1,10 +1,10 @@
 -- After a verdict the heap's ages, remembered and kept marks are those of the state.
-use Rattle.std.proofs.Common.{◌≡◌, ◌≢◌, ◌⊎◌, ℕ, ◌+◌, ◌<◌, ◌≤◌, ◌&&◌, ◌||◌, cond, Bool, true, false, true≢false, nat_le, min, List, [], length, refl, sym, ap, ◌∙◌, subst, arith, nat_eq, Option, None, Some, ⊎_elim, inl, inr, if◌then◌else◌}
+use Rattle.std.proofs.Common.{◌≡◌, ◌≢◌, ◌⊎◌, ℕ, ◌+◌, ◌&&◌, true, false, true≢false, nat_le, min, List, [], refl, sym, ap, ◌∙◌, subst, arith, nat_eq, Option, None, Some, ⊎_elim, inl, inr, if◌then◌else◌}
 use Rattle.std.specs.Prelude.{is_some}
 use Rattle.std.specs.Ordering.{nat_cmp}
 use Rattle.std.specs.Set.{is_member}
 use Rattle.std.specs.FinMap.{FinMap, get, empty}
-use Rattle.std.proofs.lemmas.Bool.{cases_Bool, and_parts, and_from, or_cases, or_left, or_right, cond-true, cond-false, false_from_ne_true}
+use Rattle.std.proofs.lemmas.Bool.{cases_Bool, and_parts, and_from, or_cases, or_left, or_right, cond-false, false_from_ne_true}
 use Rattle.std.proofs.lemmas.Bool.Decides.{nat_tests}
 use Rattle.space_model.specs.declared.event.Kind.{Kind}
 use Rattle.space_model.specs.declared.event.Kind.TheVariants.{Minor, Major, Full}
@@ -16,7 +16,7 @@ use Rattle.space_model.specs.Kept.{unprotected_children, present_of, kept_after_
 use Rattle.space_model.specs.Maps.{without}
 use Rattle.space_model.specs.Markings.{took}
 use Rattle.space_model.specs.Moments.{mixed_names, with_names}
-use Rattle.space_model.specs.State.{State, Collector}
+use Rattle.space_model.specs.State.{State}
 use Rattle.space_model.specs.Verdicts.{IsVerdict}
 use Rattle.space_model.proofs.AgeLaws.{aged-by}
 use Rattle.space_model.proofs.MapLaws.{get-without, held_without, some_get}
@@ -25,29 +25,29 @@ use Rattle.space_model.proofs.NotedLaws.{member-with_names}
 use Rattle.space_heap.specs.Slots.{ObjectView}
 use Rattle.space_heap.specs.HeapView.{HeapView}
 use Rattle.space_heap.specs.Marking.{colour_of}
-use Rattle.space_heap.specs.Objects.{is_object, object_of}
+use Rattle.space_heap.specs.Objects.{object_of}
 use Rattle.space_heap.specs.Generations.{is_old, is_aged, raised_age}
-use Rattle.space_heap.specs.Sweeping.{is_white, settled, settled_object, HasNoGone}
+use Rattle.space_heap.specs.Sweeping.{is_white, settled, HasNoGone}
 use Rattle.space_heap.proofs.Coherence.{occupied_from_colour}
 use Rattle.space_heap.proofs.MarkingLaws.{White-from_is_white}
 use Rattle.space_heap.proofs.SettledLaws.{object_of-settled, stays-settled}
 use Rattle.space_tracing.specs.Graph.{SameGraph}
 use Rattle.space_tracing.specs.Graph as heap
-use Rattle.space_tracing.specs.Marking.{IsMarked, IsKeeper}
+use Rattle.space_tracing.specs.Marking.{IsMarked}
 use Rattle.space_tracing.specs.Scans.{is_protected_at, has_young_child}
 use Rattle.space_tracing.proofs.Same.{same_part, age-same}
 use Rattle.space_collector.specs.GoneNames.{gone_names}
 use Rattle.space_collector.specs.KindMarkings.{IsScannedBy}
 use Rattle.space_collector.specs.HeapVerdicts.{IsKindMarking}
 use Rattle.space_roots.specs.WordRoots.{root_words}
-use Rattle.space_engine.specs.Generations.{age_of, HasAges, HasKept, HasRemembered, HasOldChildren, HasGenerations}
+use Rattle.space_engine.specs.Generations.{HasAges, HasKept, HasRemembered, HasOldChildren, HasGenerations}
 use Rattle.space_engine.specs.Stands.{Holds}
 use Rattle.space_engine.specs.Views.{View}
-use Rattle.space_engine.proofs.AfterVerdicts.{unmarked_at, taken_at}
+use Rattle.space_engine.proofs.AfterVerdicts.{taken_at}
 use Rattle.space_engine.proofs.GenerationLists.{is_old_in-present, HasOldParent, unprotected_children-found, unprotected_children-from, mixed_in-from}
 use Rattle.space_engine.proofs.GenerationNames.{is_old-named, young_child, aged_child, child_at, guard_at, ready}
 use Rattle.space_engine.proofs.KindNotes.{KindNotes, kind_notes, IsPassedOver, scan_cases, scanned_marked, marked_object}
-use Rattle.space_engine.proofs.Reaching.{child_live, child_reached}
+use Rattle.space_engine.proofs.Reaching.{child_reached}
 use Rattle.space_engine.proofs.WholeVerdicts.{not_white}
 
 -- ages, one verdict later
@@ -109,6 +109,10 @@ module _ (v : View) (s : State) (h : Holds v s) (clean : HasNoGone v.heap) (unmo
 
   abbrev IsScanned : ℕ → Type 0
   IsScanned a = IsScannedBy kind v.heap marked (root_words v.roots) v.stack a
+
+  -- the names that had a child that wasn't old, at the start of the marking or after the verdict
+  abbrev mixed' : List ℕ
+  mixed' = with_names (mixed_names (took s kind taken)) (mixed_names s)
 
   notes : KindNotes v.heap marked kind IsScanned
   notes = kind_notes v.heap marked kind IsScanned c.notes
@@ -209,7 +213,7 @@ module _ (v : View) (s : State) (h : Holds v s) (clean : HasNoGone v.heap) (unmo
 
   -- a parent with a child of age 0 or 1 has one that isn't old after the verdict
   mixed_parent : (n a : ℕ) → get place' n ≡ Some a → has_young_child v.heap a ≡ true →
-      is_member nat_eq (with_names (mixed_names (took s kind taken)) (mixed_names s)) n ≡ true
+      is_member nat_eq mixed' n ≡ true
   mixed_parent n a e y =
       let young = young_child v.heap a y in
       let its = child_named n a young.at e young.child in
@@ -217,14 +221,14 @@ module _ (v : View) (s : State) (h : Holds v s) (clean : HasNoGone v.heap) (unmo
       ∙ or_left _ _ (mixed_in-from s.graph place' outlived' n its.0 (ap is_some e) its.2 (old_name_after its.0 young.at its.1 ∙ young.young))
 
   mixed_remembered : (n a : ℕ) → get place' n ≡ Some a → (object_of marked a).remembered ≡ true →
-      is_member nat_eq (with_names (mixed_names (took s kind taken)) (mixed_names s)) n ≡ true
+      is_member nat_eq mixed' n ≡ true
   mixed_remembered n a e r = ⊎_elim
       (λ is. mixed_parent n a e (sym (notes.scanned a is (aged_remembered n a e r)) ∙ r))
       (λ (over : IsPassedOver v.heap marked kind (root_words v.roots) v.stack a).
       absurd (true≢false (sym (notes.other a over.unscanned r) ∙ over.forgotten)))
       (scan_cases v.heap marked kind (root_words v.roots) v.stack scans c a (marked_at n a e))
 
-  remembered : HasRemembered place' (with_names (mixed_names (took s kind taken)) (mixed_names s)) w
+  remembered : HasRemembered place' mixed' w
   remembered = record {
     aged = λ n a e r. aged_after n a e (aged_remembered n a e (sym (remembered_stays a) ∙ r));
     mixed_since = λ n a e r. mixed_remembered n a e (sym (remembered_stays a) ∙ r);
@@ -241,7 +245,7 @@ module _ (v : View) (s : State) (h : Holds v s) (clean : HasNoGone v.heap) (unmo
   held_child : (p n a b : ℕ) → get place' p ≡ Some a → get place' n ≡ Some b → IsChild s.graph p n →
       IsPassedOver v.heap marked kind (root_words v.roots) v.stack a → (is_old (object_of v.heap b) ≡ true) ⊎ ((object_of v.heap b).kept ≡ true)
   held_child p n a b e f child over =
-      h.represents.generations.old_children p n a b (was p a e) (was n b f) child over.is_old over.forgotten
+      h.represents.generations.old_children p n a b (was p a e) (was n b f) child over.old_object over.forgotten
 
   child_kept : (p n a b : ℕ) → get place' p ≡ Some a → get place' n ≡ Some b → IsChild s.graph p n → is_aged (object_of v.heap a) ≡ true →
       is_protected s.graph n ≡ false → (object_of marked b).kept ≡ true
@@ -334,5 +338,5 @@ module _ (v : View) (s : State) (h : Holds v s) (clean : HasNoGone v.heap) (unmo
     outlived = λ n b f k. let more = outlived_more n b f in omega (arith, more);
   }
 
-  pub generations_after : HasGenerations s.graph place' (took s kind taken).collector (with_names (mixed_names (took s kind taken)) (mixed_names s)) w
+  pub generations_after : HasGenerations s.graph place' (took s kind taken).collector mixed' w
   generations_after = record { ages = ages; kept = kept; remembered = remembered; old_children = old_children }

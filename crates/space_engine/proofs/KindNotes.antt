@@ -1,22 +1,22 @@
 -- What a marking of each kind leaves of remembered and kept marks, and which marked objects it didn't scan.
-use Rattle.std.proofs.Common.{◌≡◌, ◌≢◌, ◌⊎◌, ℕ, ◌&&◌, ◌||◌, Bool, true, false, true≢false, List, refl, sym, ap, ◌∙◌, subst, ⊎_elim, inl, inr}
+use Rattle.std.proofs.Common.{◌≡◌, ◌⊎◌, ℕ, ◌&&◌, true, false, true≢false, List, refl, sym, ap, ◌∙◌, ⊎_elim, inl, inr}
 use Rattle.std.proofs.lemmas.Bool.{cases_Bool, and_parts, and_from, or_cases, or_left, or_right}
 use Rattle.space_model.specs.declared.event.Kind.{Kind}
 use Rattle.space_model.specs.declared.event.Kind.TheVariants.{Minor, Major, Full}
 use Rattle.space_heap.specs.HeapView.{HeapView}
-use Rattle.space_heap.specs.Objects.{is_occupied, is_object, object_of}
+use Rattle.space_heap.specs.Objects.{is_object, object_of}
 use Rattle.space_heap.specs.Slots.{ObjectView}
-use Rattle.space_heap.specs.Generations.{is_old, has_minor_scan}
+use Rattle.space_heap.specs.Generations.{is_old}
 use Rattle.space_heap.specs.Sweeping.{HasNoGone}
 use Rattle.space_heap.proofs.Coherence.{occupied_from_colour}
 use Rattle.space_heap.proofs.GenerationLaws.{object_of-old_marked}
 use Rattle.space_heap.proofs.MarkingLaws.{object_of-unmarked}
 use Rattle.space_heap.proofs.SettledLaws.{none_gone}
-use Rattle.space_tracing.specs.Graph.{IsLive, SameGraph}
+use Rattle.space_tracing.specs.Graph.{SameGraph}
 use Rattle.space_tracing.specs.Marking.{IsMarked, IsKeeper, IsNoted}
 use Rattle.space_tracing.specs.Scans.{is_aged_at, has_young_child}
 use Rattle.space_tracing.proofs.Same.{SameGraph-old_marked, SameGraph-unmarked, is_child-same, guard-same, aged-same, young_child-same}
-use Rattle.space_minor.specs.Minors.{IsOldOrKept, IsMinorScan, IsSpared, IsNewlyMarked, IsMinorScanned}
+use Rattle.space_minor.specs.Minors.{IsOldOrKept, IsMinorScan, IsMinorScanned}
 use Rattle.space_collector.specs.KindMarkings.{begun, IsReadyFor, IsScannedBy}
 use Rattle.space_collector.specs.HeapVerdicts.{IsKindMarking}
 
@@ -88,7 +88,7 @@ module _ (old marked : HeapView) (kind : Kind) (IsScanned : ℕ → Type 0) (not
 -- only a minor marking passes over a marked object: one that is old and not remembered
 pub record IsPassedOver (old marked : HeapView) (kind : Kind) (roots stack : List ℕ) (a : ℕ) : Type 0 where
   pub minor : kind ≡ Minor
-  pub is_old : is_old (object_of old a) ≡ true
+  pub old_object : is_old (object_of old a) ≡ true
   pub forgotten : (object_of old a).remembered ≡ false
   pub unscanned : IsScannedBy kind old marked roots stack a → ⊥
 
@@ -113,7 +113,7 @@ module _ (old marked : HeapView) (roots stack : List ℕ) (a : ℕ) where
       (λ free. ⊎_elim
       (λ is. ⊎_elim
       (λ r. inl (inl (or_left (is_old (object_of old a) && (object_of old a).remembered) _ (and_from _ _ is r))))
-      (λ forgotten. inr (record { minor = refl; is_old = is; forgotten = forgotten; unscanned = unscanned_minor free is forgotten }))
+      (λ forgotten. inr (record { minor = refl; old_object = is; forgotten = forgotten; unscanned = unscanned_minor free is forgotten }))
       (cases_Bool (object_of old a).remembered))
       (λ young. inl (inr (m, λ held. ⊎_elim (λ is. true≢false (sym is ∙ young)) (λ k. true≢false (sym k ∙ free)) held)))
       (cases_Bool (is_old (object_of old a))))

@@ -1,6 +1,6 @@
 -- The number of scans of a minor marking of the heap is one that a minor marking of the state may have.
-use Rattle.std.proofs.Common.{◌≡◌, ◌≢◌, ◌⊎◌, ℕ, ◌+◌, ◌≤◌, ◌&&◌, not, Bool, true, false, true≢false, nat_le, List, ◌++◌, length, length-append, map, refl, sym, ap, ◌∙◌, subst, arith, nat_eq, Some, ⊎_elim, inl, inr}
-use Rattle.std.specs.Prelude.{◌↔◌, is_some, unwrap_or, Option}
+use Rattle.std.proofs.Common.{◌≡◌, ℕ, ◌+◌, ◌≤◌, ◌&&◌, not, Bool, true, false, true≢false, nat_le, List, [], ◌++◌, length, length-append, map, sym, ap, ◌∙◌, subst, arith, nat_eq, Some, ⊎_elim, inl}
+use Rattle.std.specs.Prelude.{is_some, unwrap_or, Option}
 use Rattle.std.specs.Cmp.{nat_eq_equiv}
 use Rattle.std.specs.List.{IsDistinct}
 use Rattle.std.specs.Set.{is_member}
@@ -12,13 +12,13 @@ use Rattle.space_model.specs.Ages.{outlived_by, is_old as is_old_name}
 use Rattle.space_model.specs.Collections.{IsYoungSurvivor, IsSuspect, AreMinorScans}
 use Rattle.space_model.specs.Maps.{address_in}
 use Rattle.space_model.specs.Markings.{mark_started}
-use Rattle.space_model.specs.State.{State, is_present}
+use Rattle.space_model.specs.State.{State}
 use Rattle.space_model.proofs.MapLaws.{some_get}
 use Rattle.space_model.proofs.Members.{member_left, member_right, member_cases}
-use Rattle.space_model.proofs.PassingNames.{passing_names, CountIs-passing, member-passing_names}
-use Rattle.space_model.proofs.ToldNames.{IsDistinct-append}
+use Rattle.space_model.proofs.PassingNames.{passing_names, IsRising-passing_names, CountIs-passing, member-passing_names}
+use Rattle.space_model.proofs.ToldNames.{IsDistinct-rising, IsDistinct-append}
 use Rattle.space_heap.specs.HeapView.{HeapView}
-use Rattle.space_heap.specs.Objects.{is_object, object_of}
+use Rattle.space_heap.specs.Objects.{object_of}
 use Rattle.space_heap.specs.Generations.{is_old}
 use Rattle.space_heap.specs.Sweeping.{HasNoGone}
 use Rattle.space_tracing.specs.Graph.{SameGraph}
@@ -81,10 +81,13 @@ module _ (v : View) (s : State) (h : Holds v s) (clean : HasNoGone v.heap) (unmo
       is_member nat_eq (first ++ second) address ≡ true
   young_scanned name address at m young = ⊎_elim
       (λ kept. member_left first second address ((c.have_first.are address).1 (scan_kept kept)))
-      (λ free. member_right first second address ((c.have_second.are address).1 (m, λ held. ⊎_elim
-      (λ old. true≢false (sym old ∙ old_at v s h unmoved fresh name address at ∙ young))
-      (λ kept. true≢false (sym kept ∙ free))
-      held)))
+      (λ free. member_right first second address ((c.have_second.are address).1 (
+        m,
+        λ held. ⊎_elim
+            (λ old. true≢false (sym old ∙ old_at v s h unmoved fresh name address at ∙ young))
+            (λ kept. true≢false (sym kept ∙ free))
+            held,
+      )))
       (cases_Bool (object_of v.heap address).kept)
     where
       scan_kept : (object_of v.heap address).kept ≡ true → IsMinorScan v.heap address
@@ -147,7 +150,7 @@ module _ (v : View) (s : State) (h : Holds v s) (clean : HasNoGone v.heap) (unmo
       (member_cases first second a m)
 
   young_once : IsDistinct nat_eq young_names
-  young_once = (CountIs-passing s h.sound.layout.placed is_young (λ n. (is_present s n ≡ true) × (is_young n ≡ true)) (λ n. (λ x. x, λ x. x))).once
+  young_once = IsDistinct-rising s.heap.place young_names (IsRising-passing_names s is_young)
 
   at_least : length young_names ≤ scans
   at_least =

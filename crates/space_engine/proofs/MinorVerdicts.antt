@@ -1,22 +1,21 @@
 -- A minor marking and its verdict on the heap are a minor verdict of the state.
-use Rattle.std.proofs.Common.{◌≡◌, ◌≢◌, ◌⊎◌, ℕ, ◌&&◌, Bool, true, false, true≢false, nat_le, List, [], refl, sym, ap, ◌∙◌, subst, arith, nat_eq, Some, ⊎_elim, inl, inr}
+use Rattle.std.proofs.Common.{◌≡◌, ◌⊎◌, ℕ, ◌&&◌, Bool, false, true≢false, List, [], sym, ap, ◌∙◌, subst, nat_eq, Some, ⊎_elim, inl, inr}
 use Rattle.std.specs.Prelude.{◌↔◌, is_some}
 use Rattle.std.specs.Set.{is_member}
 use Rattle.std.specs.FinMap.{get, empty}
-use Rattle.std.proofs.lemmas.Bool.{cases_Bool, and_parts, and_from, or_left, or_right}
+use Rattle.std.proofs.lemmas.Bool.{cases_Bool, and_from, or_left, or_right}
 use Rattle.space_model.specs.declared.event.Kind.TheVariants.{Minor}
-use Rattle.space_model.specs.Ages.{is_old as is_old_name}
 use Rattle.space_model.specs.Graph.{IsChild}
-use Rattle.space_model.specs.Reach.{IsReached, Reach}
-use Rattle.space_model.specs.State.{State, is_present}
+use Rattle.space_model.specs.Reach.{IsReached}
+use Rattle.space_model.specs.State.{State}
 use Rattle.space_model.specs.Verdicts.{IsMinorStart, IsVerdict, TakesYoung}
 use Rattle.space_model.proofs.MapLaws.{some_get}
 use Rattle.space_model.proofs.Reaching.{IsReached-start, IsReached-closed, IsReached-mono, IsReached-least}
 use Rattle.space_heap.specs.HeapView.{HeapView}
 use Rattle.space_heap.specs.Marking.{colour_of}
-use Rattle.space_heap.specs.Objects.{is_object, object_of}
-use Rattle.space_heap.specs.Generations.{is_old, has_minor_scan}
-use Rattle.space_heap.specs.Sweeping.{is_white, HasNoGone}
+use Rattle.space_heap.specs.Objects.{object_of}
+use Rattle.space_heap.specs.Generations.{is_old}
+use Rattle.space_heap.specs.Sweeping.{HasNoGone}
 use Rattle.space_heap.proofs.MarkingLaws.{White-from_is_white}
 use Rattle.space_roots.specs.WordRoots.{root_words}
 use Rattle.space_tracing.specs.Graph.{IsLive, SameGraph}
@@ -28,9 +27,9 @@ use Rattle.space_engine.specs.Stands.{Holds}
 use Rattle.space_engine.specs.Views.{View}
 use Rattle.space_engine.proofs.AfterVerdicts.{w, unmarked_at, taken_there, taken_at, taken_rising}
 use Rattle.space_engine.proofs.GenerationLists.{is_old_in-present}
-use Rattle.space_engine.proofs.GenerationNames.{child_at, old_at, held_named, generational}
+use Rattle.space_engine.proofs.GenerationNames.{old_at, held_named, generational}
 use Rattle.space_engine.proofs.KindNotes.{minor_scan_held}
-use Rattle.space_engine.proofs.Reaching.{IsAt, child_live, child_reached, start_reached, live_from_reached}
+use Rattle.space_engine.proofs.Reaching.{child_live, child_reached, start_reached, live_from_reached}
 use Rattle.space_engine.proofs.WholeVerdicts.{not_white}
 
 module _ (v : View) (s : State) (h : Holds v s) (clean : HasNoGone v.heap) (unmoved : s.heap.left ≡ empty) (fresh : s.collector.stale ≡ []) (marked : HeapView)
@@ -68,7 +67,7 @@ module _ (v : View) (s : State) (h : Holds v s) (clean : HasNoGone v.heap) (unmo
   -- the children of an old or a kept object
   held_child : (a c : ℕ) → IsOldOrKept v.heap a → heap.IsChild v.heap a c → IsSparedHere c
   held_child a c held child =
-      let scans = λ (scan : IsMinorScan v.heap a).
+      let scans : IsMinorScan v.heap a → IsSparedHere c = λ scan.
       inr (IsReached-closed (heap.IsChild v.heap) Begins a c (IsReached-start (heap.IsChild v.heap) Begins a (inl scan)) child) in
       ⊎_elim
       (λ old. ⊎_elim
@@ -102,7 +101,7 @@ module _ (v : View) (s : State) (h : Holds v s) (clean : HasNoGone v.heap) (unmo
       held)
 
   abbrev IsLedObject : ℕ → Type 0
-  IsLedObject a = (name : ℕ) × IsAt v s h unmoved fresh name a × IsLed name
+  IsLedObject a = (name : ℕ) × (get s.heap.place name ≡ Some a) × IsLed name
 
   held_led : (a : ℕ) → IsOldOrKept v.heap a → IsLedObject a
   held_led a held = (
