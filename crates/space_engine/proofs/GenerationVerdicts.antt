@@ -165,7 +165,8 @@ module _ (v : View) (s : State) (h : Holds v s) (clean : HasNoGone v.heap) (unmo
   age_raised : (n a : ℕ) → get place' n ≡ Some a → (object_of w a).age ≡ raised_age (object_of v.heap a).guard (object_of v.heap a).age
   age_raised n a e =
       ap (λ (o : ObjectView). o.age) (object_of-settled marked kind a (occupied_from_colour marked a (marked_at n a e)))
-      ∙ cond-false (is_white (colour_of marked a)) (object_of marked a).age (raised_age (object_of marked a).guard (object_of marked a).age) (not_white_at n a e)
+      ∙ cond-false (is_white (colour_of marked a)) (object_of marked a).age (raised_age (object_of marked a).guard (object_of marked a).age)
+      (not_white_at n a e)
       ∙ (λ i. raised_age (same_part (λ (o : ObjectView). o.guard) v.heap marked a c.same i) (age-same v.heap marked a c.same i))
 
   outlived_more : (n a : ℕ) → get place' n ≡ Some a → outlived_by outlived' n ≡ outlived_by s.collector.outlived n + 1

@@ -142,7 +142,8 @@ module _ (v : View) (s : State) (h : Holds v s) (unmoved : s.heap.left ≡ empty
       (λ (word, m, at). (word, at, inr (present name word at, ap (λ words. is_member nat_eq words word) (sym h.represents.stack) ∙ m)))
       start
 
-  pub child_live : (parent name address : ℕ) → IsAt parent address → IsChild s.graph parent name → (other : ℕ) × IsAt name other × heap.IsChild v.heap address other
+  pub child_live : (parent name address : ℕ) → IsAt parent address → IsChild s.graph parent name →
+      (other : ℕ) × IsAt name other × heap.IsChild v.heap address other
   child_live parent name address from child =
       let to = some_get (get s.heap.place name) (h.sound.names.children_present parent name (ap is_some from) child) in (
         to.0,
