@@ -8,8 +8,15 @@ mod Reading
 mod FieldWords
 mod Addresses
 mod FreeAddresses
+mod GenerationsByName
 mod Changes
+mod WrittenChildren
 mod FieldChanges
+mod BarredStores
+mod GenerationsStored
+mod StoredFields
+mod UnprotectedObjects
+mod GenerationsBorn
 mod NewObjects
 mod FreshPages
 mod NewPlaces
