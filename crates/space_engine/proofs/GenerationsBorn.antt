@@ -105,12 +105,13 @@ module _ (graph : List Item) (place place' : FinMap nat_cmp ℕ) (collector : Co
       ap (λ (b : Bool). if b then min (outlived_by outlived' n) 3 else 0) (protects n a at)
       ∙ ap (λ (k : ℕ). if is_protected graph n then min k 3 else 0) (outlived_same n a at)
 
+  -- nothing stood for the next name
+  next_absent : (o : Option ℕ) → get place next ≡ o → is_some o ≡ true → ⊥
+  next_absent (Some a) at p = let b = allocated next a at in let most = b.1 in omega arith
+  next_absent None at p = false≢true p
+
   not_kept : is_member nat_eq collector.kept next ≡ true → ⊥
-  not_kept m = there (get place next) refl (kept_there next m)
-    where
-      there : (o : Option ℕ) → get place next ≡ o → is_some o ≡ true → ⊥
-      there (Some a) at p = let b = allocated next a at in let most = b.1 in omega arith
-      there None at p = false≢true p
+  not_kept m = next_absent (get place next) refl (kept_there next m)
 
   -- the new name has no child, and is no child of a name that was there
   old_child : (parent child a c : ℕ) → get place' parent ≡ Some a → get place' child ≡ Some c → IsChild graph' parent child →
@@ -124,16 +125,9 @@ module _ (graph : List Item) (place place' : FinMap nat_cmp ℕ) (collector : Co
       let held : IsChild graph parent child =
       sym (ap (λ xs. is_member nat_eq xs child) (children-push graph (new_item guard style fields) parent b.0 b.1)) ∙ is in
       let present : is_some (get place child) ≡ true = children_there parent child (ap is_some was) held in
-      let elder : child ≢ next = λ same. not_next child same present in
+      let elder : child ≢ next = λ same. next_absent (get place next) refl (ap (λ n. is_some (get place n)) (sym same) ∙ present) in
       (was, sym (others_at child elder) ∙ there, held))
       (cases_eq parent next)
-    where
-      not_next : (n : ℕ) → n ≡ next → is_some (get place n) ≡ true → ⊥
-      not_next n same p = there (get place n) refl p
-        where
-          there : (o : Option ℕ) → get place n ≡ o → is_some o ≡ true → ⊥
-          there (Some a) at p = let b = allocated n a at in let most = b.1 in omega arith
-          there None at p = false≢true p
 
   pub generations_born : HasGenerations graph' place' c' mixed' heap'
   generations_born = record {

@@ -46,8 +46,8 @@ child_word place (Name name) child c m at = ⊎_elim
     (or_cases (nat_eq child name) false m)
 
 -- an old object has age 2 or more, and is protected
-old_aged : (o : ObjectView) → is_old o ≡ true → is_aged o ≡ true
-old_aged o e = let most : nat_le 3 o.age ≡ true = (and_parts _ _ e).1 in grind (arith, nat_tests, most)
+pub old_aged : (o : ObjectView) → is_old o ≡ true → is_aged o ≡ true
+old_aged o e = let most : nat_le 3 o.age ≡ true = (and_parts (is_protected_guard o.guard) (nat_le 3 o.age) e).1 in grind (arith, nat_tests, most)
 
 module _ (v : View) (s : State) (h : Holds v s) where
   -- a present value whose word names an object is a name that stands there

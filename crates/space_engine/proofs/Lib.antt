@@ -16,6 +16,7 @@ mod BarredStores
 mod GenerationsStored
 mod StoredFields
 mod UnprotectedObjects
+mod GenerationsUnprotected
 mod GenerationsBorn
 mod NewObjects
 mod FreshPages
