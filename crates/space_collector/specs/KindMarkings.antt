@@ -1,5 +1,5 @@
 -- What the marking of each kind of collection rests on, marks and scans: a minor marking, or a whole one.
-use Rattle.std.specs.Prelude.{Unit, ℕ, List}
+use Rattle.std.specs.Prelude.{ℕ, List}
 use Rattle.space_model.specs.declared.event.Kind.{Kind}
 use Rattle.space_model.specs.declared.event.Kind.TheVariants.{Minor}
 use Rattle.space_model.specs.Counts.{CountIs}

@@ -1,5 +1,5 @@
 -- After a marking and its verdict, of any kind, the heap has what the state has after that verdict.
-use Rattle.std.proofs.Common.{◌≡◌, ◌≢◌, ◌+◌, ◌&&◌, not, ℕ, Bool, true, false, true≢false, List, [], ◌∷◌, length, refl, sym, ap, ◌∙◌, subst, nat_eq, cond, Option, None, Some, ⊎_elim, inl}
+use Rattle.std.proofs.Common.{◌≡◌, ◌+◌, ◌&&◌, not, ℕ, Bool, true, false, true≢false, List, [], ◌∷◌, length, refl, sym, ap, ◌∙◌, nat_eq, cond, Option, None, Some, ⊎_elim, inl}
 use Rattle.std.specs.Prelude.{unwrap_or, is_some}
 use Rattle.std.specs.List.{flat_map, filter, range_with_len}
 use Rattle.std.specs.Ordering.{nat_cmp}
@@ -11,11 +11,11 @@ use Rattle.space_model.specs.declared.event.Kind.{Kind}
 use Rattle.space_model.specs.declared.event.Kind.TheVariants.{Minor, Major, Full}
 use Rattle.space_model.specs.declared.value.Value.{Value}
 use Rattle.space_model.specs.declared.value.Value.TheVariants.{Nil, Small, Name}
-use Rattle.space_model.specs.Markings.{counted, took}
+use Rattle.space_model.specs.Markings.{counted, mark_started, took}
 use Rattle.space_model.specs.Sweeps.{sweep_phase}
 use Rattle.space_model.specs.Graph.{Item, item_of, names_of, children, IsChild}
-use Rattle.space_model.specs.Maps.{without, carried_over, address_in}
-use Rattle.space_model.specs.Moments.{noted}
+use Rattle.space_model.specs.Maps.{without, carried_over, address_in, IsRising}
+use Rattle.space_model.specs.Moments.{noted, mixed_names, with_names}
 use Rattle.space_model.specs.Operands.{value_word}
 use Rattle.space_model.specs.Pages.{pool_at as pool_of_page, pool_pages}
 use Rattle.space_model.specs.Roots.{Root, root_names}
@@ -32,10 +32,10 @@ use Rattle.space_heap.proofs.FreeLaws.{is_moved-settled}
 use Rattle.space_heap.proofs.SettledLaws.{none_gone, is_gone-settled, is_object-settled, is_occupied-settled, stays-settled, resolved-settled, pool_at-settled, count-settled, limit-settled, unswept-settled, phase-settled, cursor-settled, grey-settled, counters-settled}
 use Rattle.space_tracing.specs.Graph.{SameGraph}
 use Rattle.space_collector.specs.GoneNames.{name_at, gone_names}
-use Rattle.space_collector.specs.HeapVerdicts.{IsHeapVerdict}
 use Rattle.space_collector.specs.Quiescent.{HasNoGrey}
-use Rattle.space_collector.proofs.GoneLists.{member_gone_names}
+use Rattle.space_collector.proofs.GoneLists.{member_gone_names, gone_names_rising}
 use Rattle.space_model.specs.StoredWords.{is_stale, stored_word, map_from}
+use Rattle.space_engine.specs.Generations.{HasGenerations}
 use Rattle.space_engine.specs.Stands.{HasObjects, HasCorpses, HasLeft, HasPages, HasProgress, HasCounted, Represents}
 use Rattle.space_engine.specs.Views.{View, with_heap}
 use Rattle.space_engine.specs.Words.{word_roots}
@@ -119,7 +119,7 @@ module _ (v : View) (s : State) (h : Represents v s) (clean : HasNoGone v.heap) 
   abbrev pub taken : List ℕ
   taken = gone_names w
 
-  abbrev place' : FinMap nat_cmp ℕ
+  abbrev pub place' : FinMap nat_cmp ℕ
   place' = without s.heap.place taken
 
   -- whether the object at the address isn't marked
@@ -165,6 +165,12 @@ module _ (v : View) (s : State) (h : Represents v s) (clean : HasNoGone v.heap) 
       (λ g. g ∙ sym f)
       (cases_Bool (is_member nat_eq taken name)))
       (cases_Bool (unmarked_at address))
+
+  -- and they are taken in ascending order of place
+  pub taken_rising : IsRising s.heap.place taken
+  taken_rising = gone_names_rising w (address_in s.heap.place) (λ a e.
+      let parts = and_parts _ _ (sym (gone_is a) ∙ e) in
+      ap (λ (o : Option ℕ). unwrap_or o 0) (ap (get s.heap.place) (name_stays a) ∙ h.heap.objects.only a parts.0))
 
   -- a name that is left is one that was present, and isn't taken
   present_left : (n a : ℕ) → get place' n ≡ Some a → is_object w a ≡ true
@@ -291,8 +297,13 @@ module _ (v : View) (s : State) (h : Represents v s) (clean : HasNoGone v.heap) 
         (λ f. f)
         (cases_Bool (is_member nat_eq taken n))
 
-    pub settled_represents : Represents (with_heap v w) (noted (took s kind taken))
-    settled_represents = record {
+    -- the names with a child that isn't old, at the start of the marking and after the verdict
+    abbrev pub mixed' : List ℕ
+    mixed' = with_names (mixed_names (took s kind taken)) (mixed_names s)
+
+    pub settled_represents : HasGenerations s.graph place' (took s kind taken).collector mixed' w →
+        Represents (with_heap v w) (noted (took (mark_started s) kind taken))
+    settled_represents generations = record {
       heap = record {
         objects = objects_left;
         corpses = corpses_left;
@@ -301,16 +312,9 @@ module _ (v : View) (s : State) (h : Represents v s) (clean : HasNoGone v.heap) 
         progress = progress_after;
         counted = counted_after;
       };
+      generations = generations;
       roots = resolved_roots-same v.heap w (λ word. resolved-settled marked kind word ∙ same.moves word) v.roots
           ∙ h.roots
           ∙ sym (roots-without s.heap.place s.heap.left taken s.roots root_stays);
       stack = h.stack;
     }
-
--- the same, of a heap that is known by a verdict on it
-pub verdict_represents : (v : View) (s : State) (new : HeapView) (kind : Kind) (IsKept : ℕ → Type 0) → Represents v s → HasNoGone v.heap →
-    s.heap.left ≡ empty → IsHeapVerdict v.heap new kind IsKept → IsVerdict s kind (gone_names new) →
-    Represents (with_heap v new) (noted (took s kind (gone_names new)))
-verdict_represents v s new kind IsKept h clean resting c =
-    subst (λ (new : HeapView). IsVerdict s kind (gone_names new) → Represents (with_heap v new) (noted (took s kind (gone_names new)))) (sym c.settles)
-    (settled_represents v s h clean c.marked c.same kind resting c.none_grey)

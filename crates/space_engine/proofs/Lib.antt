@@ -38,3 +38,10 @@ mod CollectionCounts
 mod CollectionCommands
 mod NewCommand
 mod Stepping
+mod GenerationNames
+mod GenerationLists
+mod KindNotes
+mod MinorVerdicts
+mod MinorScans
+mod GenerationVerdicts
+mod CollectionVerdicts

@@ -142,7 +142,8 @@ module _ (v : View) (s : State) (h : Holds v s) (unmoved : s.heap.left ≡ empty
       (λ (word, m, at). (word, at, inr (present name word at, ap (λ words. is_member nat_eq words word) (sym h.represents.stack) ∙ m)))
       start
 
-  child_live : (parent name address : ℕ) → IsAt parent address → IsChild s.graph parent name → (other : ℕ) × IsAt name other × heap.IsChild v.heap address other
+  pub child_live : (parent name address : ℕ) → IsAt parent address → IsChild s.graph parent name →
+      (other : ℕ) × IsAt name other × heap.IsChild v.heap address other
   child_live parent name address from child =
       let to = some_get (get s.heap.place name) (h.sound.names.children_present parent name (ap is_some from) child) in (
         to.0,
@@ -174,7 +175,7 @@ module _ (v : View) (s : State) (h : Holds v s) (unmoved : s.heap.left ≡ empty
 
   -- a start or a child by address is one by name
 
-  start_reached : (address : ℕ) → heap.IsStart v.heap (root_words v.roots) v.stack address → (name : ℕ) × IsAt name address × IsStart s name
+  pub start_reached : (address : ℕ) → heap.IsStart v.heap (root_words v.roots) v.stack address → (name : ℕ) × IsAt name address × IsStart s name
   start_reached address start = ⊎_elim
       (λ (is, m).
       let r = held_by (λ (root : Root). root.1) s.roots address is (ap (λ words. is_member nat_eq words address) (sym words_of_roots) ∙ m) in
@@ -184,7 +185,7 @@ module _ (v : View) (s : State) (h : Holds v s) (unmoved : s.heap.left ≡ empty
       ((object_of v.heap address).name, at, inr (address, ap (λ words. is_member nat_eq words address) h.represents.stack ∙ m, at)))
       start
 
-  child_reached : (address other name : ℕ) → IsAt name address → heap.IsChild v.heap address other → (its : ℕ) × IsAt its other × IsChild s.graph name its
+  pub child_reached : (address other name : ℕ) → IsAt name address → heap.IsChild v.heap address other → (its : ℕ) × IsAt its other × IsChild s.graph name its
   child_reached address other name at child =
       let c = and_parts _ _ child in
       let r = held_by (λ (value : Value). value) (item_of s.graph name).values other c.0

@@ -1,12 +1,11 @@
 -- A whole marking and its verdict on the heap are a full verdict of the state.
-use Rattle.std.proofs.Common.{◌≡◌, ◌≢◌, ◌&&◌, not, ℕ, Bool, true, false, true≢false, List, [], refl, sym, ap, ◌∙◌, subst, nat_eq, Option, Some, ⊎_elim}
-use Rattle.std.specs.Prelude.{◌↔◌, unwrap_or, is_some}
+use Rattle.std.proofs.Common.{◌≡◌, ◌≢◌, ◌&&◌, not, ℕ, Bool, true, false, true≢false, List, [], refl, sym, ap, ◌∙◌, subst, nat_eq, Some, ⊎_elim}
+use Rattle.std.specs.Prelude.{◌↔◌, is_some}
 use Rattle.std.specs.Set.{is_member}
 use Rattle.std.specs.FinMap.{get, empty}
-use Rattle.std.proofs.lemmas.Bool.{cases_Bool, and_parts}
+use Rattle.std.proofs.lemmas.Bool.{cases_Bool}
 use Rattle.space_model.specs.declared.event.Kind.TheVariants.{Full}
 use Rattle.space_model.specs.declared.phase.Phase.TheVariants.{Sweeping}
-use Rattle.space_model.specs.Maps.{address_in, IsRising}
 use Rattle.space_model.specs.Reach.{Reach}
 use Rattle.space_model.specs.State.{State, is_present}
 use Rattle.space_model.specs.Verdicts.{IsVerdict}
@@ -24,19 +23,17 @@ use Rattle.space_roots.specs.WordRoots.{root_words}
 use Rattle.space_tracing.specs.Graph.{IsLive, SameGraph}
 use Rattle.space_tracing.specs.Marking.{IsMarked}
 use Rattle.space_collector.specs.GoneNames.{gone_names}
-use Rattle.space_collector.specs.HeapVerdicts.{IsHeapVerdict}
-use Rattle.space_collector.proofs.GoneLists.{gone_names_rising}
 use Rattle.space_engine.specs.Stands.{Holds}
 use Rattle.space_engine.specs.Views.{View}
-use Rattle.space_engine.proofs.AfterVerdicts.{w, unmarked_at, gone_is, name_stays, taken_there, taken_at}
+use Rattle.space_engine.proofs.AfterVerdicts.{w, unmarked_at, taken_there, taken_at, taken_rising}
 use Rattle.space_engine.proofs.Reaching.{live_from_reached, reached_from_live}
 
-white_is : (colour : Colour) → is_white colour ≡ true → colour ≡ White
+pub white_is : (colour : Colour) → is_white colour ≡ true → colour ≡ White
 white_is White e = refl
 white_is Grey e = cc
 white_is Black e = cc
 
-not_white : (colour : Colour) → is_white colour ≡ false → colour ≢ White
+pub not_white : (colour : Colour) → is_white colour ≡ false → colour ≢ White
 not_white White e f = true≢false e
 not_white Grey e f = cc
 not_white Black e f = cc
@@ -89,17 +86,5 @@ module _ (v : View) (s : State) (h : Holds v s) (clean : HasNoGone v.heap) (unmo
         ∙ ⊎_elim (λ t. t) (λ f. absurd (lost (marked_reached name at.0 at.1 f))) (cases_Bool (unmarked at.0)),
   )
 
-  taken_rising : IsRising s.heap.place taken
-  taken_rising = gone_names_rising (w v s h.represents clean marked same Full) (address_in s.heap.place) (λ a e.
-      let parts = and_parts _ _ (sym (gone_is v s h.represents clean marked same Full a) ∙ e) in
-      ap (λ (o : Option ℕ). unwrap_or o 0)
-      (ap (get s.heap.place) (name_stays v s h.represents clean marked same Full a) ∙ h.represents.heap.objects.only a parts.0))
-
   pub settled_verdict : IsVerdict s Full taken
-  settled_verdict = full_verdict s taken taken_is taken_rising
-
--- the same, of a heap that is known by a verdict on it
-pub whole_verdict : (v : View) (s : State) (new : HeapView) → Holds v s → HasNoGone v.heap → s.heap.left ≡ empty → s.collector.stale ≡ [] →
-    IsHeapVerdict v.heap new Full (IsLive v.heap (root_words v.roots) v.stack) → IsVerdict s Full (gone_names new)
-whole_verdict v s new h clean unmoved fresh c =
-    subst (λ (new : HeapView). IsVerdict s Full (gone_names new)) (sym c.settles) (settled_verdict v s h clean unmoved fresh c.marked c.same c.marks)
+  settled_verdict = full_verdict s taken taken_is (taken_rising v s h.represents clean marked same Full)

@@ -1,5 +1,5 @@
 -- What a collection of one kind does to a heap, and which of its lines were written.
-use Rattle.std.specs.Prelude.{◌≡◌, ◌<◌, ◌≤◌, ◌+◌, ◌^◌, Unit, ⊥, ℕ, List, length, map, Option}
+use Rattle.std.specs.Prelude.{◌≡◌, ◌<◌, ◌≤◌, ◌+◌, ◌^◌, ℕ, List, length, map, Option}
 use Rattle.std.specs.Io.KnownBytes.{Appends}
 use Rattle.space_io.specs.Sinks.{AppendsPrefix}
 use Rattle.space_model.specs.declared.command.Command.{Command}

@@ -26,3 +26,4 @@ pub mod SlotAddresses
 pub mod FreedCounts
 pub mod SweptPages
 pub mod GoneLaws
+pub mod ObjectCounts

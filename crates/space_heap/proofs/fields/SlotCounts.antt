@@ -6,10 +6,9 @@ use Rattle.space_pools.specs.PoolsView.{PoolsView}
 use Rattle.space_pools.specs.PoolsView as pools
 use Rattle.space_pools.specs.Sound.{IsSoundPools}
 use Rattle.space_heap.specs.declared.marks.Marks.{Marks}
-use Rattle.space_heap.specs.HeapView.{PageView, HeapView, page_at, pool_at, page_with, slot_number}
+use Rattle.space_heap.specs.HeapView.{PageView, HeapView, page_at, page_with, slot_number}
 use Rattle.space_heap.specs.Objects.{is_occupied}
 use Rattle.space_heap.specs.Marking.{HasAtMost}
-use Rattle.space_heap.specs.SoundHeap.{IsSoundHeap}
 use Rattle.space_heap.specs.Inside.{Rest, view_with}
 use Rattle.space_heap.proofs.NumberLists.{few_places}
 use Rattle.space_heap.proofs.starts.Starts.{same_start, few_slots}
@@ -50,24 +49,6 @@ module _ (v : HeapView) (narrow : (page : ℕ) → length (page_at v page).slots
 few_of : (pool : Option ℕ) → ((p : ℕ) → pool ≡ Some p → p < 5) → count_of pool ≤ 1638
 few_of None known = omega arith
 few_of (Some pool) known = few_slots pool (known pool refl)
-
--- a sound heap has no more objects than the most pages have slots
-pub few_in_sound : (v : HeapView) → IsSoundHeap v → HasAtMost v (1638 * 4096)
-few_in_sound v sound = λ places once standing.
-    let few = few_objects v narrow places once standing in
-    let limited = sound.limited in
-    let most = sound.most in
-    omega arith
-  where
-    narrow : (page : ℕ) → length (page_at v page).slots ≤ 1638
-    narrow page = narrow_pool page (page_at v page).pool refl
-
-    narrow_pool : (page : ℕ) (pool : Option ℕ) → pool_at v page ≡ pool → length (page_at v page).slots ≤ 1638
-    narrow_pool page None e = let none = sound.spare page e in omega arith
-    narrow_pool page (Some pool) e =
-        let long = sound.long page pool e in
-        let few = few_slots pool (sound.known page pool e) in
-        omega arith
 
 module _ (v : PoolsView) (ms : List Marks) (rest : Rest) (sound : IsSoundPools v) where
   abbrev h : HeapView
