@@ -32,6 +32,7 @@ mod AfterVerdicts
 mod SweptPages
 mod Collecting
 mod TurnLaws
+mod ChangeTurns
 mod ReservedRoots
 mod NewStages
 mod CollectionCounts
