@@ -1,11 +1,10 @@
--- What a view has after a field of an object was written, in every phase.
+-- The heap's half after a field of an object was written, in every phase.
 use Rattle.std.proofs.Common.{◌≡◌, ◌≢◌, ℕ, ◌+◌, ◌-◌, ◌<◌, cond, List, length, set, refl, ap, sym, ◌∙◌, subst, arith, Some, ⊎_elim}
 use Rattle.std.specs.FinMap.{get}
 use Rattle.std.proofs.lemmas.Bool.{cases_eq}
 use Rattle.std.proofs.lemmas.List.{get_or-set_same, get_or-set_other, length-set}
 use Rattle.space_model.specs.declared.value.Value.{Value}
 use Rattle.space_model.specs.Graph.{Item, no_item, item_of}
-use Rattle.space_model.specs.Moments.{noted}
 use Rattle.space_model.specs.Operands.{value_word}
 use Rattle.space_model.specs.Pieces.{item_written, field_written}
 use Rattle.space_model.specs.Sound.{Sound}
@@ -19,9 +18,8 @@ use Rattle.space_heap.proofs.FreeLaws.{is_moved-with_object}
 use Rattle.space_heap.proofs.ObjectLaws.{occupied_from_object, is_occupied-with_object, object_of-with_object_same, object_of-with_object_other, stays, is_object-with_object, resolved-with_object, pool_at-with_object, count-with_object, rest-with_object}
 use Rattle.space_engine.specs.Stands.{IsObjectOf, HasObjects, HasCorpses, HasLeft, HasCounted, HeapRepresents, Represents}
 use Rattle.space_model.specs.StoredWords.{without_pair, stored_word}
-use Rattle.space_engine.specs.Views.{View, with_field}
+use Rattle.space_engine.specs.Views.{View}
 use Rattle.space_engine.proofs.Outcomes.{some_same}
-use Rattle.space_engine.proofs.ResolvedRoots.{resolved_roots-same}
 use Rattle.space_engine.proofs.StoredWords.{is_stale-other}
 
 module _ (v : View) (s : State) (h : Represents v s) (sound : Sound s) (name address index : ℕ) (value : Value)
@@ -140,12 +138,8 @@ module _ (v : View) (s : State) (h : Represents v s) (sound : Sound s) (name add
             (subst (HasCounted (length s.graph) s.counters) (sym others.counters) h.heap.counted);
       }
 
-  -- the field holds the word of the value, which isn't stale
-  pub after_field_written : Represents (with_field v address index word) (noted (field_written s name index value))
-  after_field_written = record {
-    heap = subst (λ graph. HeapRepresents graph s.heap (let c : Collector = s.collector in record c { stale = stale' }) s.counters w)
-        (sym (with_item-at s.graph name (item_written (item_of s.graph name) index value) (sound.layout.placed.allocated name address at).0))
-        heap_written;
-    roots = resolved_roots-same v.heap w (resolved-with_object v.heap address object) v.roots ∙ h.roots;
-    stack = h.stack;
-  }
+  -- the heap's half after the write, which leaves no stale field there
+  pub heap_after_write : HeapRepresents (field_written s name index value).graph s.heap (field_written s name index value).collector s.counters w
+  heap_after_write = subst (λ graph. HeapRepresents graph s.heap (let c : Collector = s.collector in record c { stale = stale' }) s.counters w)
+      (sym (with_item-at s.graph name (item_written (item_of s.graph name) index value) (sound.layout.placed.allocated name address at).0))
+      heap_written

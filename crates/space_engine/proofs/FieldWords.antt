@@ -82,14 +82,14 @@ module _ (v : View) (s : State) (h : Holds v s) where
     abbrev values : List Value
     values = (item_of s.graph name).values
 
-    many : length (object_of v.heap address).fields ≡ length values
-    many = ap length (h.represents.heap.objects.is name address at).fields
+    pub field_count : length (object_of v.heap address).fields ≡ length values
+    field_count = ap length (h.represents.heap.objects.is name address at).fields
         ∙ length-map_from (stored_word s.heap.place s.heap.left s.collector.stale name) 0 values
 
     owner_is : owner_of_field v.heap address index ≡ cond (nat_lt index (length values)) (Ok address) (Err NoField)
     owner_is =
         cond-true (is_object v.heap address) _ (Err NotObject) (h.represents.heap.objects.stands name address at)
-        ∙ ap (λ n. cond (nat_lt index n) (Ok address) (Err NoField)) many
+        ∙ ap (λ n. cond (nat_lt index n) (Ok address) (Err NoField)) field_count
 
     pub field_cases : ((value : Value) × HasField name address index value) ⊎ HasNoField name address index
     field_cases = ⊎_elim

@@ -8,8 +8,16 @@ mod Reading
 mod FieldWords
 mod Addresses
 mod FreeAddresses
+mod GenerationsByName
 mod Changes
+mod WrittenChildren
 mod FieldChanges
+mod BarredStores
+mod GenerationsStored
+mod StoredFields
+mod UnprotectedObjects
+mod GenerationsUnprotected
+mod GenerationsBorn
 mod NewObjects
 mod FreshPages
 mod NewPlaces
@@ -24,6 +32,7 @@ mod AfterVerdicts
 mod SweptPages
 mod Collecting
 mod TurnLaws
+mod ChangeTurns
 mod ReservedRoots
 mod NewStages
 mod CollectionCounts

@@ -11,7 +11,7 @@ use Rattle.space_model.specs.declared.object.Style.{Style}
 use Rattle.space_model.specs.declared.value.Value.TheVariants.{Name}
 use Rattle.space_model.specs.Graph.{Item, item_of}
 use Rattle.space_model.specs.Layout.{page_of, pool_for}
-use Rattle.space_model.specs.Moments.{noted}
+use Rattle.space_model.specs.Moments.{mixed_names, with_names, noted}
 use Rattle.space_model.specs.Operands.{value_word}
 use Rattle.space_model.specs.Pages.{with_pool}
 use Rattle.space_model.specs.Pieces.{born, new_item}
@@ -29,10 +29,13 @@ use Rattle.space_heap.specs.FreeSlots.{IsFreeAt}
 use Rattle.space_heap.proofs.FreeLaws.{is_moved-placed}
 use Rattle.space_heap.proofs.ObjectLaws.{occupied_from_object, none_occupied_free, is_occupied-placed_other, unswept-placed, grey-placed, cursor-placed, counters-placed, is_object-placed_same, is_object-placed_other, object_of-placed_same, object_of-placed_other, resolved-placed, pool_at-placed, count-placed, limit-placed, phase-placed}
 use Rattle.space_heap.proofs.TakenLaws.{resolved_object}
+use Rattle.space_engine.specs.Generations.{HasGenerations}
 use Rattle.space_engine.specs.Stands.{IsObjectOf, HasObjects, HasCorpses, HasLeft, HasPages, HasProgress, HasCounted, HeapRepresents, Represents, Holds}
 use Rattle.space_model.specs.StoredWords.{is_stale, stored_word, stored_words}
 use Rattle.space_engine.specs.Views.{View, with_heap, with_root_written}
 use Rattle.space_engine.specs.Words.{word_roots, resolved_roots}
+use Rattle.space_engine.proofs.GenerationsBorn.{generations_born}
+use Rattle.space_engine.proofs.GenerationsByName.{noted_more}
 use Rattle.space_engine.proofs.Outcomes.{some_same}
 use Rattle.space_engine.proofs.ResolvedRoots.{resolved_roots-same, with_root_word-resolved}
 use Rattle.space_engine.proofs.RootWords.{with_root_word-word_roots, word_roots-insert, value_word-insert}
@@ -213,6 +216,17 @@ module _ (v : View) (s : State) (h : Holds v s) (root : List ℕ) (fields : ℕ)
         });
   }
 
+  abbrev mixed' : List ℕ
+  mixed' = with_names (mixed_names (born s root fields guard style a)) s.history.mixed
+
+  generations_placed : HasGenerations graph' place' (let c : Collector = s.collector in record c { outlived = c.outlived ++ 0 ∷ [] }) mixed' w
+  generations_placed =
+      generations_born s.graph s.heap.place place' s.collector s.history.mixed mixed' v.heap w h.represents.generations fields guard style a
+      h.sound.outlived h.sound.layout.placed.allocated (λ n m. (h.sound.kept n m).0) h.sound.names.children_present
+      (noted_more (mixed_names (born s root fields guard style a)) s.history.mixed) get_new get_old
+      (object_of-placed_same heap (pool_for fields) a object free)
+      (λ n b e. object_of-placed_other heap a object b (no_place n b e) ∙ prepared.objects b)
+
   -- an object was allocated, and the root holds it
   pub after_allocation : pages ≡ with_pool s.heap.pages (page_of a) (pool_for fields) →
       Represents (with_root_written (with_heap v w) root a) (noted (born s root fields guard style a))
@@ -221,6 +235,7 @@ module _ (v : View) (s : State) (h : Holds v s) (root : List ℕ) (fields : ℕ)
       place = place';
       pages = pages;
     }) (let c : Collector = s.collector in record c { outlived = c.outlived ++ 0 ∷ [] }) s.counters w) e heap_placed;
+    generations = generations_placed;
     roots = roots_placed;
     stack = h.represents.stack;
   }

@@ -40,6 +40,20 @@ opening_held limit = record {
       progress = record { at = refl; until = refl; none_grey = λ phase. refl };
       counted = record { allocated = refl; minor_verdicts = refl; other_verdicts = refl; freed = refl; compactions = refl; moves = refl };
     };
+    generations = record {
+      ages = λ name address e. absurd (none_some address (sym (get-empty nat_cmp name) ∙ e));
+      kept = record {
+        certain = λ name address e m. absurd (none_some address (sym (get-empty nat_cmp name) ∙ e));
+        only = λ vague name address e k. absurd (none_some address (sym (get-empty nat_cmp name) ∙ e));
+        unprotected = λ name address e k. absurd (none_some address (sym (get-empty nat_cmp name) ∙ e));
+        outlived = λ name address e k. absurd (none_some address (sym (get-empty nat_cmp name) ∙ e));
+      };
+      remembered = record {
+        aged = λ name address e r. absurd (none_some address (sym (get-empty nat_cmp name) ∙ e));
+        mixed_since = λ name address e r. absurd (none_some address (sym (get-empty nat_cmp name) ∙ e));
+      };
+      old_children = λ parent child a c at there is old out. absurd (none_some a (sym (get-empty nat_cmp parent) ∙ at));
+    };
     roots = refl;
     stack = refl;
   };

@@ -14,7 +14,7 @@ use Rattle.space_model.specs.Sweeps.{AreCorpsesOn, swept, sweep_phase, Sweep1, S
 use Rattle.space_model.specs.Counts.{CountIs}
 use Rattle.space_model.specs.Layout.{page_of}
 use Rattle.space_model.specs.Maps.{without}
-use Rattle.space_model.specs.Moments.{noted}
+use Rattle.space_model.specs.Moments.{mixed_names, noted}
 use Rattle.space_model.specs.Pages.{pool_at as pool_of_page, is_used, spared}
 use Rattle.space_model.specs.Sound.{SoundSweep}
 use Rattle.space_model.specs.State.{State}
@@ -37,6 +37,7 @@ use Rattle.space_collector.proofs.PageSweeps.{count-first, phase-first, unswept-
 use Rattle.space_collector.proofs.SoundSweeps.{sound-first}
 use Rattle.space_engine.specs.Stands.{HasObjects, HasCorpses, HasLeft, HasPages, HasProgress, HasCounted, Represents, Holds}
 use Rattle.space_engine.specs.Views.{View, with_heap}
+use Rattle.space_engine.proofs.GenerationsByName.{generations_same}
 use Rattle.space_engine.proofs.Outcomes.{some_same}
 use Rattle.space_engine.proofs.Reaching.{member_map, member_unmap}
 use Rattle.space_engine.proofs.ResolvedRoots.{resolved_roots-same}
@@ -247,6 +248,9 @@ module _ (v : View) (s : State) (h : Holds v s) (sound : IsSoundHeap v.heap) (z 
       progress = progress_after;
       counted = counted_after;
     };
+    generations = generations_same s.graph s.heap.place s.collector s.history.mixed (mixed_names (swept s page step.others names)) heap z
+        (λ n a e. object_stays-first heap z freed step a (h.represents.heap.objects.stands n a e)) (sweep_phase step.others) s.collector.cursor
+        s.collector.stale h.represents.generations;
     roots = resolved_roots-same heap z (resolved-first heap z freed step) v.roots ∙ h.represents.roots;
     stack = h.represents.stack;
   }

@@ -4,7 +4,7 @@ use Rattle.std.specs.Ordering.{nat_cmp}
 use Rattle.std.specs.FinMap.{FinMap}
 use Rattle.space_model.specs.declared.reply.Refusal.{Refusal}
 use Rattle.space_model.specs.declared.value.Value.{Value}
-use Rattle.space_engine.specs.Words.{word_result, written_words}
+use Rattle.space_engine.specs.Words.{word_result, written_words, named_address}
 
 module _ (place : FinMap nat_cmp ℕ) where
   pub refused_value : (found : Result Value Refusal) (why : Refusal) → Err why ≡ word_result place found → found ≡ Err why
@@ -14,3 +14,7 @@ module _ (place : FinMap nat_cmp ℕ) where
   pub refused_write : (found : Result (ℕ × Value) Refusal) (why : Refusal) → Err why ≡ written_words place found → found ≡ Err why
   refused_write (Ok written) why e = absurd (cc)
   refused_write (Err other) why e = sym (let f : ◌≡◌ {A = Result (ℕ × Value) Refusal} (Err why) (Err other) = cc in f)
+
+  pub refused_name : (found : Result ℕ Refusal) (why : Refusal) → Err why ≡ named_address place found → found ≡ Err why
+  refused_name (Ok name) why e = absurd (cc)
+  refused_name (Err other) why e = sym (let f : ◌≡◌ {A = Result ℕ Refusal} (Err why) (Err other) = cc in f)

@@ -20,6 +20,12 @@ returns-in-Pop-clause-answers g c = λ s h. rw c.in-Pop.is (c.pop.ensures.answer
 pub returns-in-Store-clause-answers : goal.returns-in-Store-clause-answers
 returns-in-Store-clause-answers g c = λ s h. rw c.in-Store.is (c.store.ensures.answers s h)
 
+pub returns-in-RawStore-clause-answers : goal.returns-in-RawStore-clause-answers
+returns-in-RawStore-clause-answers g c = λ s h. rw c.in-RawStore.is (c.raw_store.ensures.answers s h)
+
+pub returns-in-Unprotect-clause-answers : goal.returns-in-Unprotect-clause-answers
+returns-in-Unprotect-clause-answers g c = λ s h. rw c.in-Unprotect.is (c.unprotect.ensures.answers s h)
+
 pub returns-in-Load-clause-answers : goal.returns-in-Load-clause-answers
 returns-in-Load-clause-answers g c = λ s h. rw c.in-Load.is (c.load.ensures.answers s h)
 
