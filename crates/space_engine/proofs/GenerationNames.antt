@@ -13,12 +13,12 @@ use Rattle.space_model.specs.Graph.{Item, item_of, IsChild}
 use Rattle.space_model.specs.State.{State}
 use Rattle.space_heap.specs.HeapView.{HeapView}
 use Rattle.space_heap.specs.Objects.{is_occupied, is_object, object_of}
-use Rattle.space_heap.specs.Generations.{is_old, is_aged}
+use Rattle.space_heap.specs.Generations.{is_old, is_aged, is_young_word, is_protected_at}
 use Rattle.space_heap.specs.Sweeping.{HasNoGone}
 use Rattle.space_heap.proofs.Coherence.{object_of_none}
 use Rattle.space_heap.proofs.SettledLaws.{none_gone}
 use Rattle.space_tracing.specs.Graph as heap
-use Rattle.space_tracing.specs.Scans.{is_young_word, is_any_young, has_young_child, fields_of, is_protected_at}
+use Rattle.space_tracing.specs.Scans.{is_any_young, has_young_child, fields_of}
 use Rattle.space_minor.specs.Minors.{IsOldOrKept, IsGenerational}
 use Rattle.space_collector.specs.KindMarkings.{IsReadyFor}
 use Rattle.space_engine.specs.Generations.{HasAges}

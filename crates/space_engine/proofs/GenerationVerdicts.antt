@@ -26,7 +26,7 @@ use Rattle.space_heap.specs.Slots.{ObjectView}
 use Rattle.space_heap.specs.HeapView.{HeapView}
 use Rattle.space_heap.specs.Marking.{colour_of}
 use Rattle.space_heap.specs.Objects.{object_of}
-use Rattle.space_heap.specs.Generations.{is_old, is_aged, raised_age}
+use Rattle.space_heap.specs.Generations.{is_old, is_aged, raised_age, is_protected_at}
 use Rattle.space_heap.specs.Sweeping.{is_white, settled, HasNoGone}
 use Rattle.space_heap.proofs.Coherence.{occupied_from_colour}
 use Rattle.space_heap.proofs.MarkingLaws.{White-from_is_white}
@@ -34,7 +34,7 @@ use Rattle.space_heap.proofs.SettledLaws.{object_of-settled, stays-settled}
 use Rattle.space_tracing.specs.Graph.{SameGraph}
 use Rattle.space_tracing.specs.Graph as heap
 use Rattle.space_tracing.specs.Marking.{IsMarked}
-use Rattle.space_tracing.specs.Scans.{is_protected_at, has_young_child}
+use Rattle.space_tracing.specs.Scans.{has_young_child}
 use Rattle.space_tracing.proofs.Same.{same_part, age-same}
 use Rattle.space_collector.specs.GoneNames.{gone_names}
 use Rattle.space_collector.specs.KindMarkings.{IsScannedBy}

@@ -14,6 +14,7 @@ pub mod NumberLists
 pub mod MappedLaws
 pub mod MarkingLaws
 pub mod GenerationLaws
+mod VisitLaws
 mod RaisedAges
 pub mod Coherence
 pub mod SettledLaws

@@ -9,7 +9,7 @@ use Rattle.space_heap.specs.Objects.{is_occupied, is_object, is_moved, object_of
 use Rattle.space_heap.specs.FreeSlots.{is_free_at}
 use Rattle.space_heap.specs.Marking.{colour_of, is_white, visited, greyed, with_colour, recoloured, whitened, unmarked}
 use Rattle.space_heap.proofs.MappedLaws.{pool_at-mapped, count-mapped, pool_with-mapped, is_slot-mapped, test-mapped, is_occupied-mapped, resolved-mapped, is_moved-mapped, slot_free-mapped}
-use Rattle.space_heap.proofs.ObjectLaws.{is_occupied-with_object, is_object-with_object, object_of-with_object_same, object_of-with_object_other, stays, resolved-with_object, pool_at-with_object, count-with_object, is_free_at-with_object, free_by, rest-with_object}
+use Rattle.space_heap.proofs.ObjectLaws.{is_occupied-with_object, is_object-with_object, object_of-with_object_same, object_of-with_object_other, stays, resolved-with_object, is_slot-with_object, pool_at-with_object, count-with_object, is_free_at-with_object, free_by, rest-with_object}
 
 -- what a marking doesn't change besides the slots
 pub record SameState (v w : HeapView) : Type 0 where
@@ -25,6 +25,10 @@ module _ (v : HeapView) (a : ℕ) (c : Colour) (grey : List ℕ) where
 
   abbrev w : HeapView
   w = with_object v a o
+
+  pub is_slot-recoloured : (b : ℕ) → is_slot (recoloured v a c grey) b ≡ is_slot v b
+  unfolding recoloured is_slot
+  is_slot-recoloured b = is_slot-with_object v a o b
 
   pub is_occupied-recoloured : (b : ℕ) → is_occupied (recoloured v a c grey) b ≡ is_occupied v b
   unfolding recoloured is_occupied slot_at is_slot

@@ -99,7 +99,7 @@ pool_at-with_object v a o page = by_cases v a o (λ w. pool_at w page ≡ pool_a
 pub count-with_object : (v : HeapView) (a : ℕ) (o : ObjectView) → length (with_object v a o).pages ≡ length v.pages
 count-with_object v a o = by_cases v a o (λ w. length w.pages ≡ length v.pages) refl (λ _. count-with_slot v a (Object o))
 
-is_slot-with_object : (v : HeapView) (a : ℕ) (o : ObjectView) (b : ℕ) → is_slot (with_object v a o) b ≡ is_slot v b
+pub is_slot-with_object : (v : HeapView) (a : ℕ) (o : ObjectView) (b : ℕ) → is_slot (with_object v a o) b ≡ is_slot v b
 is_slot-with_object v a o b = by_cases v a o (λ w. is_slot w b ≡ is_slot v b) refl (λ _. is_slot-with_slot v a (Object o) b)
 
 pool_with-with_object : (v : HeapView) (a : ℕ) (o : ObjectView) (b : ℕ) → pool_with (with_object v a o) b ≡ pool_with v b

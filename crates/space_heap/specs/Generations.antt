@@ -1,5 +1,5 @@
 -- The generations: which objects are old, what a minor marking scans again, and the heap after such a mark of an object changed.
-use Rattle.std.specs.Prelude.{ℕ, ◌+◌, Bool, true, false, ◌&&◌, ◌||◌, [], map, min, nat_le, if◌then◌else◌}
+use Rattle.std.specs.Prelude.{ℕ, ◌+◌, Bool, true, false, not, ◌&&◌, ◌||◌, [], map, min, nat_le, nat_lt, if◌then◌else◌}
 use Rattle.space_model.specs.declared.object.Guard.{Guard}
 use Rattle.space_model.specs.declared.object.Guard.TheVariants.{Protected, Unprotected}
 use Rattle.space_model.specs.Ages.{is_protected_guard}
@@ -8,6 +8,7 @@ use Rattle.space_heap.specs.Slots.{ObjectView}
 use Rattle.space_heap.specs.HeapView.{HeapView, map_page}
 use Rattle.space_heap.specs.planes.RecolouredMarks.{is_black}
 use Rattle.space_heap.specs.Objects.{is_object, object_of, with_object}
+use Rattle.space_heap.specs.Marking.{visited}
 
 -- whether the object is old: it is protected, and has age 3
 abbrev pub is_old : ObjectView → Bool
@@ -49,3 +50,19 @@ has_minor_scan o = (is_old o && o.remembered) || o.kept
 -- whether a minor marking scans the object that the word names again: it is black, and has a reason
 abbrev pub is_minor_scan : HeapView → ℕ → Bool
 is_minor_scan v a = is_object v a && (is_black (object_of v a).colour && has_minor_scan (object_of v a))
+
+-- whether the write barrier protects the object at an address
+abbrev pub is_protected_at : HeapView → ℕ → Bool
+is_protected_at v a = is_protected_guard (object_of v a).guard
+
+-- an unprotected object that the word names is kept
+abbrev pub kept_by_word : HeapView → ℕ → HeapView
+kept_by_word v word = if is_object v word && not (is_protected_at v word) then kept_at v word else v
+
+-- a word was visited that a field of an object of age 2 or more has
+abbrev pub visited_by_aged : HeapView → ℕ → HeapView
+visited_by_aged v word = kept_by_word (visited v word) word
+
+-- whether the word names a protected object of age 0 or 1
+abbrev pub is_young_word : HeapView → ℕ → Bool
+is_young_word v word = is_object v word && (is_protected_at v word && nat_lt (object_of v word).age 2)

@@ -110,7 +110,7 @@ fn is_black(colour: Colour) -> bool
 }
 
 // Writes a bit.
-pub fn write_bit(plane: &mut Plane, s: u32, bit: bool)
+fn write_bit(plane: &mut Plane, s: u32, bit: bool)
     requires { s < length plane.old }
     ensures { plane.new ≡ slice_set plane.old s bit }
 {

@@ -1,52 +1,16 @@
 // The planes and the pools at a verdict, and at the sweep of a page.
-ghost use Rattle.std.specs.Prelude.{◌≡◌, ◌<◌, ℕ, true, false, not, ◌&&◌, ◌||◌, length, slice_set, vec_capacity, is_some, count_by, IsTrue, IsFalse};
+ghost use Rattle.std.specs.Prelude.{◌≡◌, ◌<◌, ℕ, true, false, ◌||◌, length, slice_set, vec_capacity, is_some, count_by, IsTrue, IsFalse};
 ghost use Rattle.space_planes.specs.Planes.{bit, IsClearFrom};
 ghost use Rattle.space_pools.specs.PoolsView.{pool_at, page_at, unswept_at, free_at, with_page, with_freed_page};
 ghost use Rattle.space_pools.specs.Sound.{IsSoundPools};
 ghost use Rattle.space_heap.specs.planes.MarkPlanes.{AreWide, marks_at, age_from};
-ghost use Rattle.space_heap.specs.planes.SweptPlanes.{settled_age, IsSettled, raised_low, raised_high, swept_marks, waiting_page, HoldsPages, HasNoPooled, SweepsPage};
+ghost use Rattle.space_heap.specs.planes.SweptPlanes.{settled_age, IsSettled, swept_marks, waiting_page, HoldsPages, HasNoPooled, SweepsPage};
 ghost use Rattle.space_heap.specs.Sweeping.{has_gone};
 ghost use Rattle.space_heap.specs.Inside.{page_in, AreAllMarks};
 
-use crate::marks::{Marks, marks_of, reset_page, write_bit};
+use crate::marks::{Marks, marks_of, reset_page};
 use space_planes::Plane;
 use space_pools::Pools;
-
-// The low bit of an age that is raised by one up to 3, or stays.
-fn low_after(raised: bool, low: bool, high: bool) -> bool
-    ensures { result ≡ raised_low raised low high }
-{
-    if raised { !low || high } else { low }
-}
-
-// The high bit of an age that is raised by one up to 3, or stays.
-fn high_after(raised: bool, low: bool, high: bool) -> bool
-    ensures { result ≡ raised_high raised low high }
-{
-    raised && low || high
-}
-
-// Raises the age of a slot by one, up to 3, or leaves it.
-fn raise_slot(low: &mut Plane, high: &mut Plane, s: u32, raised: bool)
-    requires low { s < length low.old }
-    requires high { s < length high.old }
-    ensures low { low.new ≡ slice_set low.old s (raised_low raised (bit low.old s) (bit high.old s)) }
-    ensures high { high.new ≡ slice_set high.old s (raised_high raised (bit low.old s) (bit high.old s)) }
-{
-    let was_low = low.get(s);
-    let was_high = high.get(s);
-    write_bit(low, s, low_after(raised, was_low, was_high));
-    write_bit(high, s, high_after(raised, was_low, was_high));
-}
-
-// Whether a verdict raises the age of the slot, which is marked and protected then.
-fn is_raised(marked: &Plane, guard: &Plane, s: u32) -> bool
-    requires marked { s < length marked.now }
-    requires guard { s < length guard.now }
-    ensures { result ≡ (bit marked.now s && not (bit guard.now s)) }
-{
-    marked.get(s) && !guard.get(s)
-}
 
 // Raises the age of each slot that is marked and protected by one, up to 3.
 fn raise_ages(low: &mut Plane, high: &mut Plane, marked: &Plane, guard: &Plane)
@@ -57,9 +21,7 @@ fn raise_ages(low: &mut Plane, high: &mut Plane, marked: &Plane, guard: &Plane)
     ensures high { length high.new ≡ length high.old }
     ensures ages { (s : ℕ) → age_from (bit low.new s) (bit high.new s) ≡ settled_age (bit marked.now s) (bit guard.now s) (bit low.old s) (bit high.old s) }
 {
-    'slots: for s in 0..marked.len() {
-        raise_slot(low, high, s, is_raised(marked, guard, s));
-    }
+    marked.count_up(guard, low, high);
 }
 
 // The objects that aren't marked are gone, and each protected other one is older.

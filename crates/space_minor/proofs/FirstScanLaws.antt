@@ -10,14 +10,14 @@ use Rattle.space_heap.specs.Objects.{is_object, object_of}
 use Rattle.space_heap.specs.SoundHeap.{IsSoundHeap}
 use Rattle.space_heap.specs.Marking.{colour_of}
 use Rattle.space_heap.specs.planes.RecolouredMarks.{is_black}
-use Rattle.space_heap.specs.Generations.{has_minor_scan, is_minor_scan}
+use Rattle.space_heap.specs.Generations.{has_minor_scan, is_minor_scan, is_protected_at}
 use Rattle.space_heap.specs.Walks.{HasNoMinorScanFrom, IsNextMinorScan}
 use Rattle.space_heap.proofs.ObjectCounts.{few_in_sound}
 use Rattle.space_heap.proofs.SweptPages.{standing_below}
 use Rattle.space_heap.proofs.Coherence.{occupied_from_colour}
 use Rattle.space_heap.proofs.ObjectLaws.{occupied_from_object}
 use Rattle.space_heap.proofs.NumberLists.{is_member-push}
-use Rattle.space_tracing.specs.Scans.{is_protected_at, read_object}
+use Rattle.space_tracing.specs.Scans.{read_object}
 use Rattle.space_tracing.specs.Marking.{Marks}
 use Rattle.space_tracing.proofs.Same.{is_object-same, guard-same, age-same}
 use Rattle.space_tracing.proofs.Bundles.{marks_again, colours}

@@ -5,8 +5,7 @@ use Rattle.space_heap.specs.declared.colour.Colour.TheVariants.{Black}
 use Rattle.space_heap.specs.HeapView.{HeapView}
 use Rattle.space_heap.specs.Objects.{object_of}
 use Rattle.space_heap.specs.Marking.{colour_of}
-use Rattle.space_heap.specs.Generations.{is_minor_scan}
-use Rattle.space_tracing.specs.Scans.{is_protected_at}
+use Rattle.space_heap.specs.Generations.{is_minor_scan, is_protected_at}
 use Rattle.space_tracing.specs.Marking.{Marks}
 
 -- each black object is protected, or it is kept

@@ -1,3 +1,4 @@
 mod Zips
+mod CountsUp
 pub mod Bits
 pub mod Counts

@@ -1,6 +1,6 @@
 // One bit for each slot of a page.
 ghost use Rattle.std.specs.Prelude.{◌≡◌, ◌↔◌, ◌<◌, ◌≤◌, IsTrue, true, false, length, replicate, slice_set, IfOk, MatchOption};
-ghost use Rattle.space_planes.specs.Planes.{bit, count_set, set_in_both, set_in_either, set_in_first_only, IsClearFrom, IsFirstSet, IsClearBelow, IsLastSet};
+ghost use Rattle.space_planes.specs.Planes.{bit, count_set, set_in_both, set_in_either, set_in_first_only, IsCountedUp, IsClearFrom, IsFirstSet, IsClearBelow, IsLastSet};
 
 use crate::formulas;
 use std::alloc::{AllocError as NoMemory, Global};
@@ -149,11 +149,25 @@ impl Plane {
         formulas::or(&self.bits, &other.bits, &mut out.bits);
     }
 
+    /// Counts up by one, to 3 at most, at each index where `self` has 1 and `skipped` has 0. A count is 0 to 3, and its bits
+    /// are those of `low` and `high`.
+    pub fn count_up(&self, skipped: &Plane, low: &mut Plane, high: &mut Plane)
+        requires skipped { length skipped.now ≡ length self.now }
+        requires low { length low.old ≡ length self.now }
+        requires high { length high.old ≡ length self.now }
+        ensures { IsCountedUp self.now skipped.now low.old high.old low.new high.new }
+    {
+        formulas::count_up(&self.bits, &skipped.bits, &mut low.bits, &mut high.bits);
+    }
+
     /// The first index from `i` on whose bit is 1. Past the end there is none.
     pub fn first_set_from(&self, i: u32) -> Option<u32>
         ensures { MatchOption result (IsClearFrom self.now i) (IsFirstSet self.now i) }
     {
-        let mut at = i;
+        if i >= self.len() {
+            return None;
+        }
+        let mut at = formulas::pass_clear(&self.bits, i as usize) as u32;
         while at < self.len() {
             if self.get(at) {
                 return Some(at);

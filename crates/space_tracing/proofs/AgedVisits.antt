@@ -12,9 +12,9 @@ use Rattle.space_heap.specs.Slots.{ObjectView}
 use Rattle.space_heap.specs.HeapView.{HeapView}
 use Rattle.space_heap.specs.Objects.{is_object, object_of}
 use Rattle.space_heap.specs.Marking.{colour_of, visited}
-use Rattle.space_heap.specs.Generations.{kept_at}
+use Rattle.space_heap.specs.Generations.{kept_at, is_protected_at, is_young_word, kept_by_word, visited_by_aged}
 use Rattle.space_heap.proofs.ObjectLaws.{occupied_from_object, stays, object_of-with_object_same, object_of-with_object_other}
-use Rattle.space_tracing.specs.Scans.{is_protected_at, is_young_word, is_any_young, kept_by_word, visited_by_aged, visited_all_by_aged}
+use Rattle.space_tracing.specs.Scans.{is_any_young, visited_all_by_aged}
 use Rattle.space_tracing.specs.Graph.{SameGraph}
 use Rattle.space_tracing.specs.Marking.{IsMarked}
 use Rattle.space_tracing.proofs.Same.{SameGraph-refl, SameGraph-then, SameGraph-with_object, is_object-same, guard-same}

@@ -4,7 +4,8 @@ use Rattle.std.proofs.lemmas.Bool.{cases_eq, and_parts, or_cases, not-true, cond
 use Rattle.std.proofs.lemmas.Bool.Decides.{nat_tests}
 use Rattle.space_heap.specs.HeapView.{HeapView}
 use Rattle.space_heap.specs.Objects.{object_of}
-use Rattle.space_tracing.specs.Scans.{is_protected_at, is_aged_at, has_young_child}
+use Rattle.space_heap.specs.Generations.{is_protected_at}
+use Rattle.space_tracing.specs.Scans.{is_aged_at, has_young_child}
 use Rattle.space_tracing.specs.Graph.{is_child, SameGraph}
 use Rattle.space_tracing.specs.Marking.{is_read, IsKeeper, Notes, IsNoted}
 use Rattle.space_tracing.proofs.Same.{is_child-same, guard-same, aged-same, young_child-same}

@@ -6,12 +6,12 @@ use Rattle.space_heap.specs.Slots.{ObjectView}
 use Rattle.space_heap.specs.HeapView.{HeapView}
 use Rattle.space_heap.specs.Objects.{is_occupied, is_object, object_of, with_object}
 use Rattle.space_heap.specs.Marking.{whitened, recoloured, unmarked}
-use Rattle.space_heap.specs.Generations.{old_marked}
+use Rattle.space_heap.specs.Generations.{old_marked, is_protected_at, is_young_word}
 use Rattle.space_heap.proofs.ObjectLaws.{is_object_is, is_occupied-with_object, stays, resolved-with_object, pool_at-with_object, count-with_object, is_free_at-with_object, rest-with_object}
 use Rattle.space_heap.proofs.GenerationLaws.{is_occupied-old_marked, object_of-old_marked, resolved-old_marked, is_free_at-old_marked, is_moved-old_marked, pool_at-old_marked, count-old_marked, state-old_marked}
 use Rattle.space_heap.proofs.MarkingLaws.{is_occupied-recoloured, stays-recoloured, resolved-recoloured, is_free_at-recoloured, pool_at-recoloured, count-recoloured, state-recoloured, is_occupied-unmarked, object_of-unmarked, resolved-unmarked, is_free_at-unmarked, pool_at-unmarked, count-unmarked, state-unmarked}
 use Rattle.space_heap.proofs.FreeLaws.{is_moved-with_object, is_moved-recoloured, is_moved-unmarked}
-use Rattle.space_tracing.specs.Scans.{fields_of, is_protected_at, is_aged_at, is_young_word, is_any_young, has_young_child}
+use Rattle.space_tracing.specs.Scans.{fields_of, is_aged_at, is_any_young, has_young_child}
 use Rattle.space_tracing.specs.Graph.{is_child, SameGraph}
 
 pub SameGraph-refl : (v : HeapView) → SameGraph v v

@@ -6,11 +6,11 @@ use Rattle.space_heap.specs.Slots.{ObjectView}
 use Rattle.space_heap.specs.HeapView.{HeapView}
 use Rattle.space_heap.specs.Objects.{is_occupied, object_of}
 use Rattle.space_heap.specs.Marking.{colour_of, blackened}
-use Rattle.space_heap.specs.Generations.{remembered_as}
+use Rattle.space_heap.specs.Generations.{remembered_as, is_protected_at}
 use Rattle.space_heap.proofs.ObjectLaws.{stays, object_of-with_object_same, object_of-with_object_other}
 use Rattle.space_heap.proofs.MarkingLaws.{is_occupied-recoloured, colour_of-recoloured_same, colour_of-recoloured_other}
 use Rattle.space_heap.proofs.Coherence.{occupied_from_colour}
-use Rattle.space_tracing.specs.Scans.{fields_of, is_protected_at, is_aged_at, has_young_child, visited_all, visited_all_by_aged, read_object, scanned}
+use Rattle.space_tracing.specs.Scans.{fields_of, is_aged_at, has_young_child, visited_all, visited_all_by_aged, read_object, scanned}
 use Rattle.space_tracing.specs.Graph.{IsChild, is_child, SameGraph}
 use Rattle.space_tracing.specs.Marking.{IsMarked}
 use Rattle.space_tracing.proofs.Same.{SameGraph-then, SameGraph-recoloured, SameGraph-with_object, SameNotes-recoloured, is_child-same, guard-same, aged-same, young_child-same}

@@ -7,7 +7,8 @@ use Rattle.space_heap.specs.declared.colour.Colour.TheVariants.{White, Black}
 use Rattle.space_heap.specs.HeapView.{HeapView}
 use Rattle.space_heap.specs.Objects.{object_of}
 use Rattle.space_heap.specs.Marking.{colour_of}
-use Rattle.space_tracing.specs.Scans.{is_protected_at, is_aged_at, has_young_child}
+use Rattle.space_heap.specs.Generations.{is_protected_at}
+use Rattle.space_tracing.specs.Scans.{is_aged_at, has_young_child}
 use Rattle.space_tracing.specs.Graph.{IsChild, IsNamed, SameGraph}
 
 -- the object at the address isn't white

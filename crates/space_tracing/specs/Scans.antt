@@ -1,19 +1,14 @@
 -- What visits of words and a scan of an object leave.
-use Rattle.std.specs.Prelude.{ℕ, Bool, not, ◌&&◌, List, nat_lt, if◌then◌else◌}
+use Rattle.std.specs.Prelude.{ℕ, Bool, List, if◌then◌else◌}
 use Rattle.std.specs.List.{fold, list_any}
-use Rattle.space_model.specs.Ages.{is_protected_guard}
 use Rattle.space_heap.specs.HeapView.{HeapView}
-use Rattle.space_heap.specs.Objects.{is_object, object_of}
+use Rattle.space_heap.specs.Objects.{object_of}
 use Rattle.space_heap.specs.Marking.{visited, blackened}
-use Rattle.space_heap.specs.Generations.{is_aged, remembered_as, kept_at}
+use Rattle.space_heap.specs.Generations.{is_aged, remembered_as, visited_by_aged, is_young_word}
 
 -- the words of the fields of the object at an address
 abbrev pub fields_of : HeapView → ℕ → List ℕ
 fields_of v a = (object_of v a).fields
-
--- whether the write barrier protects the object at an address
-abbrev pub is_protected_at : HeapView → ℕ → Bool
-is_protected_at v a = is_protected_guard (object_of v a).guard
 
 -- whether the object at an address has age 2 or more
 abbrev pub is_aged_at : HeapView → ℕ → Bool
@@ -23,21 +18,9 @@ is_aged_at v a = is_aged (object_of v a)
 unfoldable pub visited_all : HeapView → List ℕ → HeapView
 visited_all v words = fold visited v words
 
--- an unprotected object that the word names is kept
-abbrev pub kept_by_word : HeapView → ℕ → HeapView
-kept_by_word v word = if is_object v word && not (is_protected_at v word) then kept_at v word else v
-
--- a word was visited that a field of an object of age 2 or more has
-abbrev pub visited_by_aged : HeapView → ℕ → HeapView
-visited_by_aged v word = kept_by_word (visited v word) word
-
 -- words of the fields of an object of age 2 or more were visited in their order
 unfoldable pub visited_all_by_aged : HeapView → List ℕ → HeapView
 visited_all_by_aged v words = fold visited_by_aged v words
-
--- whether the word names a protected object of age 0 or 1
-abbrev pub is_young_word : HeapView → ℕ → Bool
-is_young_word v word = is_object v word && (is_protected_at v word && nat_lt (object_of v word).age 2)
 
 -- whether one of the words names a protected object of age 0 or 1
 unfoldable pub is_any_young : HeapView → List ℕ → Bool

@@ -1,8 +1,6 @@
 //! Tracing: visits of words, scans of objects, and the drain of the mark stack.
 #![tactic(auto)]
 
-mod scanning;
-mod visiting;
+mod tracing;
 
-pub use scanning::{drain, scan, scan_again};
-pub use visiting::{visit_all, visit_roots};
+pub use tracing::{drain, scan, scan_again, visit_all, visit_roots};

@@ -16,10 +16,11 @@ use Rattle.space_heap.specs.declared.colour.Colour.TheVariants.{White}
 use Rattle.space_heap.specs.Marking.{colour_of, is_white}
 use Rattle.space_heap.specs.planes.MarkPlanes.{marks_at, AreWide, colour_from, is_present, traits_from, traits_of}
 use Rattle.space_heap.specs.words.Shown.{IsShownBy}
-use Rattle.space_heap.specs.words.SlotPlaces.{is_slot_of, is_taken_start, words_from, IsSlotAt}
+use Rattle.space_heap.specs.words.SlotPlaces.{is_slot_of, is_taken_start, words_from, IsSlotAt, IsPlace}
 use Rattle.space_heap.specs.Inside.{view_from, IsHeap, rest_of}
 use Rattle.space_heap.proofs.ObjectLaws.{occupied_from_object}
 use Rattle.space_heap.proofs.MarkingLaws.{White-from_is_white}
+use Rattle.space_heap.proofs.fields.Views.{is_slot_read, pool_read}
 use Rattle.space_heap.proofs.fields.Readers as readers
 
 pub and_same : (x y u w : Bool) → x ≡ u → (x ≡ true → y ≡ w) → (x && y) ≡ (u && w)
@@ -46,6 +47,23 @@ module _ (h : Inside) (v : HeapView) (view_is : view_from h ≡ v) (a : ℕ) whe
 
   pub none_resolved : is_slot_of h.pools a ≡ false → resolved v a ≡ a
   none_resolved none = ap (λ v. resolved v a) (sym view_is) ∙ readers.none_resolved h.pools h.marks.items (rest_of h) a none
+
+  -- a slot of a page is told by the pools and by the view alike
+  pub place_here : (page slot : ℕ) → IsSlotAt h.pools a page slot → IsPlace v a page slot
+  place_here page slot at = subst (λ v. IsPlace v a page slot) view_is (record {
+    is = is_slot_read h.pools h.marks.items (rest_of h) a ∙ at.is;
+    on_page = at.on_page;
+    in_slot = at.in_slot ∙ ap (λ pool. slot_number pool a) (sym (pool_read h.pools h.marks.items (page_of a)));
+  })
+
+  pub place_of : (page slot : ℕ) → IsPlace v a page slot → IsSlotAt h.pools a page slot
+  place_of page slot place =
+      let p : IsPlace (view_from h) a page slot = subst (λ v. IsPlace v a page slot) (sym view_is) place in
+      record {
+        is = sym (is_slot_read h.pools h.marks.items (rest_of h) a) ∙ p.is;
+        on_page = p.on_page;
+        in_slot = p.in_slot ∙ ap (λ pool. slot_number pool a) (pool_read h.pools h.marks.items (page_of a));
+      }
 
   module _ (page slot : ℕ) (inv : IsHeap h) (at : IsSlotAt h.pools a page slot) where
     pub page_here : page < length h.marks.items
@@ -92,6 +110,14 @@ module _ (h : Inside) (v : HeapView) (view_is : view_from h ≡ v) (a : ℕ) whe
 
       pub not_white : r ≡ false → (is_object v a && is_white (colour_of v a)) ≡ false
       not_white e = tested ∙ e
+
+    -- what the planes tell of an object that isn't gone
+    module _ (m : Marks) (r : Bool) (read : m ≡ marks_at h.marks.items page) (test : r ≡ is_present m slot) where
+      pub present_object : is_object v a ≡ r
+      present_object = object_here ∙ ap (λ m. is_present m slot) (sym read) ∙ sym test
+
+      pub told_here : r ≡ true → (t : Traits) → t ≡ traits_from m slot → t ≡ traits_of (object_of v a)
+      told_here e t told = told ∙ ap (λ m. traits_from m slot) read ∙ traits_here (occupied_from_object v a (present_object ∙ e))
 
     pub words_here : (words : List ℕ) → is_occupied v a ≡ true → found_at h.pools page slot ≡ Some words → IsShownBy (object_of v a) words
     words_here words e found = subst (λ v. IsShownBy (object_of v a) words) view_is

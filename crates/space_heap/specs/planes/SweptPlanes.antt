@@ -1,5 +1,5 @@
 -- The planes and the pools after a verdict, and after the sweep of a page.
-use Rattle.std.specs.Prelude.{◌≡◌, ℕ, Bool, false, not, ◌&&◌, ◌||◌, List, length, replicate, nat_eq, is_some, slice_set, if◌then◌else◌}
+use Rattle.std.specs.Prelude.{◌≡◌, ℕ, Bool, false, not, List, length, replicate, nat_eq, is_some, slice_set, if◌then◌else◌}
 use Rattle.std.specs.List.{filter}
 use Rattle.space_planes.specs.Planes.{bit, set_in_first_only}
 use Rattle.space_pools.specs.PageSlots.{PageSlots}
@@ -14,13 +14,6 @@ use Rattle.space_heap.specs.Sweeping.{swept_page}
 abbrev pub settled_age : Bool → Bool → Bool → Bool → ℕ
 settled_age marked unprotected low high =
     if marked then raised_age (guard_from unprotected) (age_from low high) else age_from low high
-
--- the two bits of an age, 0 to 3, that was raised by one up to 3, or stayed
-abbrev pub raised_low : Bool → Bool → Bool → Bool
-raised_low raised low high = if raised then not low || high else low
-
-abbrev pub raised_high : Bool → Bool → Bool → Bool
-raised_high raised low high = (raised && low) || high
 
 -- n are the planes m after a verdict: the objects that aren't marked are gone, and the others are older
 pub record IsSettled (m n : Marks) : Type 0 where

@@ -2,7 +2,7 @@
 use Rattle.std.specs.Prelude.{◌≡◌, ◌≢◌, ◌⊎◌, ℕ, Bool, true, ◌&&◌, List, [], length, Option, unwrap_or}
 use Rattle.space_model.specs.Layout.{page_of}
 use Rattle.space_pools.specs.PoolsView.{PoolsView, page_at, pool_at, unswept_at, used_at, found_at}
-use Rattle.space_heap.specs.HeapView.{slot_number, is_start}
+use Rattle.space_heap.specs.HeapView.{HeapView, slot_number, is_start, is_slot, pool_at as pool_of}
 
 -- whether the address is the start of a slot
 unfoldable pub is_slot_of : PoolsView → ℕ → Bool
@@ -13,6 +13,12 @@ pub record IsSlotAt (v : PoolsView) (a page slot : ℕ) : Type 0 where
   pub is : is_slot_of v a ≡ true
   pub on_page : page ≡ page_of a
   pub in_slot : slot ≡ slot_number (pool_at v (page_of a)) a
+
+-- the same in words of the heap's view
+pub record IsPlace (v : HeapView) (a page slot : ℕ) : Type 0 where
+  pub is : is_slot v a ≡ true
+  pub on_page : page ≡ page_of a
+  pub in_slot : slot ≡ slot_number (pool_of v (page_of a)) a
 
 -- whether the address is the start of a slot that isn't free
 abbrev pub is_taken_start : PoolsView → ℕ → Bool

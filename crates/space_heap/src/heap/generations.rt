@@ -1,11 +1,13 @@
 // The calls of the generations.
 ghost use Rattle.std.specs.Prelude.{◌≡◌, true};
 ghost use Rattle.space_heap.specs.Objects.{is_occupied};
-ghost use Rattle.space_heap.specs.Generations.{remembered_as, kept_at, unprotected_at, old_marked};
+ghost use Rattle.space_heap.specs.Generations.{remembered_as, kept_at, unprotected_at, old_marked, visited_by_aged, is_young_word};
+ghost use Rattle.space_heap.specs.words.SlotPlaces.{IsPlace};
 
-use crate::addresses::slot_of;
+use crate::addresses::{find_slot, slot_of};
 use crate::heap::Heap;
-use crate::marks::{keep_slot, mark_old_pages, remember_slot, unprotect_slot};
+use crate::marks::{keep_slot, mark_old_pages, marks_of, remember_slot, unprotect_slot};
+use space_model::Guard;
 
 impl Heap {
     /// The object is remembered from now on, or isn't any more (CRuby 3.3). Nothing else changes.
@@ -24,7 +26,41 @@ impl Heap {
         ensures { self.new ≡ kept_at self.old address }
     {
         let (page, slot) = slot_of(&self.pools, address);
+        self.keep_in_slot(address, page, slot);
+    }
+
+    // The same for an object whose slot was found.
+    fn keep_in_slot(&mut self, address: u64, page: u32, slot: u32)
+        requires object { is_occupied self.old address ≡ true }
+        requires place { IsPlace self.old address page slot }
+        ensures { self.new ≡ kept_at self.old address }
+    {
         keep_slot(&mut self.marks, page, slot);
+    }
+
+    /// Visits a word that a field of an object of age 2 or more has: a white object that it names is grey then, the last of the
+    /// grey ones, and an unprotected one is kept. The answer is whether it names a protected object of age 0 or 1 (CRuby 3.3).
+    /// It takes no memory, and finds the slot of the word once.
+    pub fn visit_from_aged(&mut self, word: u64) -> bool
+        ensures visited { self.new ≡ visited_by_aged self.old word }
+        ensures young { result ≡ is_young_word self.old word }
+    {
+        let Some((page, slot)) = find_slot(&self.pools, word) else {
+            return false;
+        };
+        let marks = marks_of(&self.marks, page);
+        if !marks.is_present(slot) {
+            return false;
+        }
+        let traits = marks.traits(slot);
+        self.grey_slot_if_white(word, page, slot);
+        match traits.guard {
+            Guard::Protected => traits.age < 2,
+            Guard::Unprotected => {
+                self.keep_in_slot(word, page, slot);
+                false
+            }
+        }
     }
 
     /// The write barrier doesn't protect the object from now on: it has age 0, and isn't remembered (CRuby 3.3). Nothing
@@ -50,7 +86,7 @@ impl Heap {
 mod tests {
     use super::*;
     use crate::colour::Colour;
-    use space_model::{Guard, Style};
+    use space_model::Style;
     use std::test::Fail;
 
     // Whether an object was allocated.

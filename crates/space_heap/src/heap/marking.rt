@@ -2,6 +2,7 @@
 ghost use Rattle.std.specs.Prelude.{◌≡◌, ◌*◌, true, [], length, IfSome, IfNone};
 ghost use Rattle.space_heap.specs.Objects.{is_object};
 ghost use Rattle.space_heap.specs.Marking.{colour_of, visited, greyed, blackened, unmarked, IsLastGrey, IsCoherent, HasAtMost};
+ghost use Rattle.space_heap.specs.words.SlotPlaces.{IsPlace};
 
 use crate::addresses::{find_slot, slot_of};
 use crate::colour::Colour;
@@ -37,6 +38,15 @@ impl Heap {
         let Some((page, slot)) = find_slot(&self.pools, word) else {
             return;
         };
+        self.grey_slot_if_white(word, page, slot);
+    }
+
+    // The same for a word whose slot was found.
+    pub(crate) fn grey_slot_if_white(&mut self, word: u64, page: u32, slot: u32)
+        requires { IsPlace self.old word page slot }
+        ensures { self.new ≡ visited self.old word }
+    {
+        self.pools.page_count();
         if !marks_of(&self.marks, page).is_white(slot) {
             return;
         }

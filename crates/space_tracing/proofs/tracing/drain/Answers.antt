@@ -3,7 +3,7 @@ use Rattle.space_heap.proofs.ObjectLaws.{occupied_from_object}
 use Rattle.space_heap.proofs.Coherence.{last_is_object, last_is_grey}
 use Rattle.space_tracing.specs.Marking.{GoesOn}
 use Rattle.space_tracing.proofs.Bundles.{goes_on_scan, goes_on_most, goes_on_fewer}
-use Rattle.space_tracing.proofs.scanning.drain.Goals as goal
+use Rattle.space_tracing.proofs.tracing.drain.Goals as goal
 
 pub scan-requires-clause-object : goal.scan-requires-clause-object
 scan-requires-clause-object g c =

@@ -3,7 +3,7 @@ use Rattle.space_heap.specs.Marking.{visited}
 use Rattle.space_tracing.specs.Scans.{visited_all}
 use Rattle.space_tracing.proofs.Visits.{visits_all, visited_all-more, visited_all-none}
 use Rattle.space_tracing.proofs.FieldVisits.{AreVisited, still_occupied, count_stays, one_more, none_yet}
-use Rattle.space_tracing.proofs.scanning.visit_fields.Goals as goal
+use Rattle.space_tracing.proofs.tracing.visit_fields.Goals as goal
 
 pub fields-init : goal.fields-init
 fields-init g c = subst (AreVisited visited visited_all c.args.heap.now c.args.heap.now c.args.address) (sym c.read_fields-fields.ensures.begins)

@@ -2,7 +2,7 @@ use Rattle.std.proofs.Common.{◌-◌}
 use Rattle.space_heap.specs.Marking.{visited}
 use Rattle.space_tracing.specs.Scans.{visited_all}
 use Rattle.space_tracing.proofs.FieldVisits.{AreVisited}
-use Rattle.space_tracing.proofs.scanning.visit_fields.Given as goal
+use Rattle.space_tracing.proofs.tracing.visit_fields.Given as goal
 
 -- the fields so far were visited
 abbrev pub invariant-fields : goal.invariant-fields

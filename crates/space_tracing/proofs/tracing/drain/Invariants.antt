@@ -1,6 +1,6 @@
 use Rattle.std.proofs.Common.{◌≡◌, ◌+◌, ◌-◌, ◌*◌}
 use Rattle.space_tracing.specs.Marking.{GoesOn}
-use Rattle.space_tracing.proofs.scanning.drain.Given as goal
+use Rattle.space_tracing.proofs.tracing.drain.Given as goal
 
 -- so many scans were made
 abbrev pub invariant-scans : goal.invariant-scans

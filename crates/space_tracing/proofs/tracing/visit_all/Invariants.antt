@@ -1,6 +1,6 @@
 use Rattle.std.proofs.Common.{◌≡◌, take}
 use Rattle.space_tracing.specs.Scans.{visited_all}
-use Rattle.space_tracing.proofs.visiting.visit_all.Given as goal
+use Rattle.space_tracing.proofs.tracing.visit_all.Given as goal
 
 -- the words so far were visited
 abbrev pub invariant-loop-word : goal.invariant-loop-word

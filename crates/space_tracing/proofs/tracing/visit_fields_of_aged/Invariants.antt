@@ -1,7 +1,8 @@
 use Rattle.std.proofs.Common.{◌≡◌, ◌-◌, take}
-use Rattle.space_tracing.specs.Scans.{fields_of, is_any_young, visited_by_aged, visited_all_by_aged}
+use Rattle.space_heap.specs.Generations.{visited_by_aged}
+use Rattle.space_tracing.specs.Scans.{fields_of, is_any_young, visited_all_by_aged}
 use Rattle.space_tracing.proofs.FieldVisits.{AreVisited}
-use Rattle.space_tracing.proofs.scanning.visit_fields_of_aged.Given as goal
+use Rattle.space_tracing.proofs.tracing.visit_fields_of_aged.Given as goal
 
 -- the fields so far were visited, and it is known whether one of them names a protected object of age 0 or 1
 abbrev pub invariant-fields : goal.invariant-fields

@@ -1,49 +1,34 @@
-// Scans of grey objects, and of black ones again.
+// Visits of words, scans of grey objects, and of black ones again.
 ghost use Rattle.std.specs.Prelude.{◌≡◌, ◌≢◌, ◌<◌, ◌+◌, ◌^◌, ℕ, true, []};
-ghost use Rattle.space_model.specs.Ages.{is_protected_guard};
+ghost use Rattle.space_roots.specs.WordRoots.{root_words};
 ghost use Rattle.space_heap.specs.Objects.{is_occupied};
 ghost use Rattle.space_heap.specs.Marking.{colour_of, IsLastGrey};
 ghost use Rattle.space_heap.specs.Generations.{remembered_as};
-ghost use Rattle.space_tracing.specs.Scans.{fields_of, has_young_child, is_young_word, kept_by_word, visited_by_aged, visited_all, visited_all_by_aged, read_object, scanned};
+ghost use Rattle.space_tracing.specs.Scans.{fields_of, has_young_child, visited_all, visited_all_by_aged, read_object, scanned};
 ghost use Rattle.space_tracing.specs.Marking.{GoesOn};
 
 use space_heap::{Colour, Heap};
-use space_model::{Guard, Ledger, Steps};
+use space_model::{Ledger, Steps};
+use space_roots::Roots;
 
-// Whether stores into an object with this guard go through the write barrier.
-fn is_protected(guard: Guard) -> bool
-    ensures { result ≡ is_protected_guard guard }
+/// Visits words in their order: each white object that one of them names is grey then (conservative marking of CRuby 3.3).
+#[tactic(auto, using(crate::proofs::Inside::reading))]
+pub fn visit_all(heap: &mut Heap, words: &[u64])
+    ensures { heap.new ≡ visited_all heap.old words.now }
 {
-    match guard {
-        Guard::Protected => true,
-        Guard::Unprotected => false,
+    for word in words {
+        heap.grey_if_white(*word);
     }
 }
 
-// Whether the word names a protected object of age 0 or 1.
-#[tactic(auto, using(crate::proofs::Inside::naming))]
-fn is_young(heap: &Heap, word: u64) -> bool
-    ensures { result ≡ is_young_word heap.now word }
+/// Visits the words of the roots in their order (this project's own).
+#[tactic(auto, using(crate::proofs::Inside::reading))]
+pub fn visit_roots(heap: &mut Heap, roots: &Roots)
+    ensures { heap.new ≡ visited_all heap.old (root_words roots.now) }
 {
-    heap.is_object(word) && is_protected(heap.guard(word)) && heap.age(word) < 2
-}
-
-// An unprotected object that the word names is kept.
-#[tactic(auto, using(crate::proofs::Inside::naming))]
-fn keep_if_unprotected(heap: &mut Heap, word: u64)
-    ensures { heap.new ≡ kept_by_word heap.old word }
-{
-    if heap.is_object(word) && !is_protected(heap.guard(word)) {
-        heap.keep(word);
+    for k in 0..roots.len() {
+        heap.grey_if_white(roots.at(k));
     }
-}
-
-// Visits what a field of an object of age 2 or more holds: it is kept where it is an unprotected object.
-fn visit_by_aged(heap: &mut Heap, child: u64)
-    ensures { heap.new ≡ visited_by_aged heap.old child }
-{
-    heap.grey_if_white(child);
-    keep_if_unprotected(heap, child);
 }
 
 // Visits the fields of an object in their order, in one step.
@@ -70,8 +55,7 @@ fn visit_fields_of_aged<L: Ledger>(heap: &mut Heap, address: u64, steps: &mut St
     let mut young = false;
     let mut fields = heap.read_fields(address, steps);
     'fields: while let Some(word) = heap.next_field(&mut fields) {
-        young = is_young(heap, word) | young;
-        visit_by_aged(heap, word);
+        young = heap.visit_from_aged(word) | young;
     }
     heap.remember(address, young);
 }

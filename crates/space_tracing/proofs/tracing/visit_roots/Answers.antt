@@ -4,7 +4,7 @@ use Rattle.std.proofs.lemmas.Option.{slice_get-get_or}
 use Rattle.space_roots.specs.WordRoots.{root_words}
 use Rattle.space_heap.specs.Marking.{visited}
 use Rattle.space_tracing.proofs.Visits.{visited_all-more}
-use Rattle.space_tracing.proofs.visiting.visit_roots.Goals as goal
+use Rattle.space_tracing.proofs.tracing.visit_roots.Goals as goal
 
 pub loop-k-preserved : goal.loop-k-preserved
 loop-k-preserved c =

@@ -1,10 +1,11 @@
 use Rattle.std.proofs.Common.{◌||◌, take, get_or, sym, ap, ◌∙◌, subst}
 use Rattle.space_heap.specs.Readings.{Reading}
-use Rattle.space_tracing.specs.Scans.{fields_of, is_young_word, is_any_young, visited_by_aged, visited_all_by_aged}
+use Rattle.space_heap.specs.Generations.{is_young_word, visited_by_aged}
+use Rattle.space_tracing.specs.Scans.{fields_of, is_any_young, visited_all_by_aged}
 use Rattle.space_tracing.proofs.Same.{young_word-same}
 use Rattle.space_tracing.proofs.AgedVisits.{aged_all, visited_all_by_aged-more, visited_all_by_aged-none, young-more, young-none}
 use Rattle.space_tracing.proofs.FieldVisits.{AreVisited, same, still_occupied, count_stays, next_within, next_word, one_more, none_yet}
-use Rattle.space_tracing.proofs.scanning.visit_fields_of_aged.Goals as goal
+use Rattle.space_tracing.proofs.tracing.visit_fields_of_aged.Goals as goal
 
 pub fields-init : goal.fields-init
 fields-init g c = record {
@@ -35,11 +36,11 @@ fields-preserved g c =
     c.fields.invariant.visits c.next_field.new.reader c.in-Some.word c.in-Some.ensures in
     record {
       visits = subst (λ u. AreVisited visited_by_aged visited_all_by_aged v u a c.next_field.new.reader)
-          (sym c.visit_by_aged.ensures)
+          (sym c.visit_from_aged-young.ensures.visited)
           (one_more visited_by_aged visited_all_by_aged (λ v words. (aged_all v words).same) v c.fields.heap a c.fields.fields c.fields.invariant.visits
           (visited_all_by_aged-more v) c.next_field.new.reader c.in-Some.word c.in-Some.ensures);
       young =
-          ap (λ b. b || c.fields.young) (c.is_young-young.ensures ∙ young_word-same v c.fields.heap c.in-Some.word graph ∙ ap (is_young_word v) word)
+          ap (λ b. b || c.fields.young) (c.visit_from_aged-young.ensures.young ∙ young_word-same v c.fields.heap c.in-Some.word graph ∙ ap (is_young_word v) word)
           ∙ ap (λ b. is_young_word v (get_or (fields_of v a) c.fields.fields.done 0) || b) c.fields.invariant.young
           ∙ sym (young-more v (fields_of v a) c.fields.fields.done within)
           ∙ ap (λ (r : Reading). is_any_young v (take r.done (fields_of v a))) (sym c.in-Some.ensures.after_it);
