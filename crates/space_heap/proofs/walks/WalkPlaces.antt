@@ -1,5 +1,5 @@
 -- Where a walk goes on, in slots and in addresses.
-use Rattle.std.proofs.Common.{◌≡◌, ⊎_elim, ℕ, zero, suc, ◌+◌, ◌*◌, ◌<◌, ◌≤◌, ◌↔◌, false, length, sym, ap, ◌∙◌, subst, arith, Option, None, Some}
+use Rattle.std.proofs.Common.{◌≡◌, ⊎_elim, ℕ, zero, suc, ◌+◌, ◌*◌, ◌<◌, ◌≤◌, ◌↔◌, false, sym, ap, ◌∙◌, subst, arith, Option, None, Some}
 use Rattle.std.proofs.lemmas.Bool.{cases_lt}
 use Rattle.space_model.specs.Layout.{page_bytes, page_of, page_slots, slot_address, slot_bytes}
 use Rattle.space_pools.specs.PoolsView.{pool_at as pools_pool}
@@ -9,7 +9,7 @@ use Rattle.space_heap.specs.declared.marks.Sought.TheVariants.{Gone}
 use Rattle.space_heap.specs.HeapView.{HeapView, pool_at}
 use Rattle.space_heap.specs.Inside.{view_from}
 use Rattle.space_heap.specs.Sweeping.{is_gone}
-use Rattle.space_heap.specs.Walks.{HasNoneOn, IsNextOn, IsNext, StartsFrom, IsWalkFrom, is_sought}
+use Rattle.space_heap.specs.Walks.{HasNoneOn, StartsFrom, IsWalkFrom, is_sought}
 use Rattle.space_heap.proofs.fields.Views.{pool_read}
 use Rattle.space_heap.proofs.walks.SlotWalks.{page_order}
 

@@ -3,7 +3,7 @@ use Rattle.space_model.specs.Layout.{page_slots, slot_address}
 use Rattle.space_pools.specs.PoolsView.{pool_at}
 use Rattle.space_heap.specs.declared.marks.Marks.{Marks}
 use Rattle.space_heap.specs.HeapView.{HeapView}
-use Rattle.space_heap.specs.Walks.{HasNoneFrom, HasNoneOn, StartsFrom, is_sought_in, is_sought}
+use Rattle.space_heap.specs.Walks.{HasNoneFrom, HasNoneOn, is_sought_in, is_sought}
 use Rattle.space_heap.specs.Inside.{rest_of}
 use Rattle.space_heap.proofs.fields.Views.{length-pages_from}
 use Rattle.space_heap.proofs.starts.PoolStarts.{wide_slot}

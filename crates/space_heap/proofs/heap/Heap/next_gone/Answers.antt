@@ -1,6 +1,6 @@
-use Rattle.std.proofs.Common.{ℕ, arith, ap, length}
+use Rattle.std.proofs.Common.{arith}
 use Rattle.space_heap.specs.declared.marks.Sought.TheVariants.{Gone}
-use Rattle.space_heap.specs.Walks.{IsWalkFrom, is_sought}
+use Rattle.space_heap.specs.Walks.{is_sought}
 use Rattle.space_heap.proofs.walks.SlotWalks.{none_left, next_found}
 use Rattle.space_heap.proofs.walks.WalkPlaces.{walk_begun, walk_more, walk_behind}
 use Rattle.space_heap.proofs.heap.Heap.next_gone.Goals as goal
