@@ -97,7 +97,7 @@ pub record IsWalkFrom (v : HeapView) (walk : Walk) (from : ℕ) : Type 0 where
 abbrev pub place_of : Walk → ℕ
 place_of walk = 2 ^ 32 * walk.page + walk.slot
 
--- the second walk has come further, and is on a page
+-- the second walk has come further, and not past the last page
 pub record IsFurther (v : HeapView) (old new : Walk) : Type 0 where
   pub further : place_of old < place_of new
-  pub within : new.page < length v.pages
+  pub within : place_of new ≤ 2 ^ 32 * length v.pages
