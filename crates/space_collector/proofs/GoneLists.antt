@@ -23,7 +23,7 @@ use Rattle.space_heap.specs.Objects.{is_occupied, object_of}
 use Rattle.space_heap.specs.Sweeping.{is_gone, HasNoGone}
 use Rattle.space_heap.proofs.Laws.{page_in_heap}
 use Rattle.space_heap.proofs.ObjectLaws.{slot_from_occupied}
-use Rattle.space_heap.proofs.SweptPages.{occupied_from_gone, standing_below}
+use Rattle.space_heap.proofs.SweptPages.{occupied_from_gone}
 use Rattle.space_collector.specs.GoneNames.{gone_below, gone_addresses, name_at, gone_names}
 
 -- a range in two parts
@@ -57,10 +57,6 @@ rising_range a n i j d lt within =
 pub gone_small : (v : HeapView) (a : ℕ) → is_gone v a ≡ true → a < page_bytes * (length v.pages + 1)
 unfolding page_of
 gone_small v a e = let page = page_in_heap v a (slot_from_occupied v a (occupied_from_gone v a e)) in grind arith
-
--- the address of the next gone object is small
-pub next_gone_small : (v : HeapView) (from a : ℕ) → IsSoundHeap v → IsNextGone v from a → a < 2 ^ 29
-next_gone_small v from a sound n = standing_below v a sound (occupied_from_gone v a n.is)
 
 -- the gone objects below an address, and those from there on
 pub gone_split : (v : HeapView) (m k : ℕ) → gone_below v (m + k) ≡ gone_below v m ++ filter (is_gone v) (range_with_len m k)

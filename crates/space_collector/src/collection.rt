@@ -21,7 +21,7 @@ use space_major::whole;
 use space_minor::minor;
 use space_model::{Event, Kind, Ledger, Steps};
 use space_roots::{Roots, Stack};
-use space_sweep::{next_gone, next_unswept, sweep_first, verdict};
+use space_sweep::{Walk, next_gone, next_unswept, sweep_first, verdict};
 use space_trace::write_event;
 
 /// What a marking and its verdict did.
@@ -91,10 +91,9 @@ pub fn tell_gone<K: Sink>(
     ensures fault { OnErr result (AppendsPrefix (K.written sink.old) (K.written sink.new) (text_of (map Told (verdict_events kind (gone_names heap.now))))) }
     ensures cause { HasCause (K.faults sink.old) (K.faults sink.new) result }
 {
-    let mut from = 0;
-    'told: while let Some(object) = next_gone(heap, from) {
+    let mut walk = Walk::new();
+    'told: while let Some(object) = next_gone(heap, &mut walk) {
         write_event(&Event::Gone { name: object.name }, sink)?;
-        from = object.address + 1;
     }
     write_event(&Event::Verdict { kind, gone }, sink)
 }

@@ -1,2 +1,3 @@
 -- Walks over what stands at addresses.
 pub mod SlotWalks
+pub mod WalkPlaces

@@ -1,13 +1,14 @@
 -- The next address with a property, from an address on.
-use Rattle.std.specs.Prelude.{◌≡◌, ℕ, ◌<◌, ◌≤◌, Bool, true, false}
-use Rattle.space_model.specs.Layout.{page_of}
+use Rattle.std.specs.Prelude.{◌≡◌, ◌↔◌, ℕ, ◌+◌, ◌*◌, ◌<◌, ◌≤◌, ◌^◌, Bool, true, false, length, Some}
+use Rattle.space_model.specs.Layout.{page_bytes, page_slots, slot_address, page_of}
 use Rattle.space_planes.specs.Planes.{bit}
 use Rattle.space_heap.specs.declared.heap.walking.Found.{Found}
+use Rattle.space_heap.specs.declared.heap.walking.Walk.{Walk}
 use Rattle.space_heap.specs.declared.marks.Marks.{Marks}
 use Rattle.space_heap.specs.declared.marks.Sought.{Sought}
 use Rattle.space_heap.specs.declared.marks.Sought.TheVariants.{Present, Gone, MinorScan}
 use Rattle.space_heap.specs.planes.MarkPlanes.{is_present, is_minor_scan_in}
-use Rattle.space_heap.specs.HeapView.{HeapView}
+use Rattle.space_heap.specs.HeapView.{HeapView, pool_at}
 use Rattle.space_heap.specs.Objects.{is_object, object_of}
 use Rattle.space_heap.specs.Sweeping.{is_gone}
 use Rattle.space_heap.specs.Generations.{is_minor_scan}
@@ -80,3 +81,23 @@ IsFoundOn sought v page from found = IsNextOn (is_sought sought v) page from fou
 -- the gone object with the least address from this one on, and its name
 abbrev pub IsFoundGone : HeapView → ℕ → Found → Type 0
 IsFoundGone v from found = IsNextGone v from found.address × (found.name ≡ (object_of v found.address).name)
+
+-- of the slots of the page those from this one on start at the address or later
+abbrev pub StartsFrom : HeapView → ℕ → ℕ → ℕ → Type 0
+StartsFrom v page slot from = (pool k : ℕ) → pool_at v page ≡ Some pool → k < page_slots pool → (slot ≤ k) ↔ (from ≤ slot_address page pool k)
+
+-- the walk goes on with what stands from this address on
+pub record IsWalkFrom (v : HeapView) (walk : Walk) (from : ℕ) : Type 0 where
+  pub slots : StartsFrom v walk.page walk.slot from
+  -- the address is not past the end of the page, and none from it on is on an earlier one
+  pub within : from ≤ page_bytes * (walk.page + 2)
+  pub after : (b : ℕ) → from ≤ b → walk.page ≤ page_of b
+
+-- how far the walk has come
+abbrev pub place_of : Walk → ℕ
+place_of walk = 2 ^ 32 * walk.page + walk.slot
+
+-- the second walk has come further, and not past the last page
+pub record IsFurther (v : HeapView) (old new : Walk) : Type 0 where
+  pub further : place_of old < place_of new
+  pub within : place_of new ≤ 2 ^ 32 * length v.pages

@@ -18,7 +18,7 @@ use space_planes::{MOST_BITS, Plane};
 use space_pools::Pools;
 use std::alloc::{AllocError as NoMemory, Global};
 use std::marker::Model;
-pub use walking::Found;
+pub use walking::{Found, Walk};
 
 /// Objects at addresses, with their fields and the collector's marks.
 #[derive(Drop)]

@@ -11,5 +11,5 @@ mod slot_allocation;
 mod sweeps;
 
 pub use colour::Colour;
-pub use heap::{FieldReader, Found, Heap, Made, PlaceFault};
+pub use heap::{FieldReader, Found, Heap, Made, PlaceFault, Walk};
 pub use space_pools::PageFault;

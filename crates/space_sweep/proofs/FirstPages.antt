@@ -1,6 +1,6 @@
 -- The first page that waits for a sweep.
 use Rattle.std.proofs.Common.{◌≡◌, ⊎_elim, ℕ, zero, suc, ◌+◌, ◌<◌, ◌≤◌, Bool, true, false, not, ◌&&◌, List, [], ◌∷◌, length, take, get_or, cond, nat_eq, refl, sym, ap, ◌∙◌, arith}
-use Rattle.std.specs.Prelude.{count_by, Option, None, Some, MatchOption}
+use Rattle.std.specs.Prelude.{count_by}
 use Rattle.std.specs.List.{range_with_len, filter}
 use Rattle.std.specs.Set.{is_member}
 use Rattle.std.proofs.lemmas.Bool.{cases_Bool, cases_eq, cases_lt, cond-true, cond-false}
@@ -39,12 +39,6 @@ first_is v page sound next =
 
 pub none_waits : (v : HeapView) → IsSoundHeap v → ((page : ℕ) → 0 ≤ page → is_unswept v page ≡ false) → v.unswept ≡ []
 none_waits v sound none = sound.waiting ∙ none_left (is_unswept v) (range_with_len 0 (length v.pages)) (λ k. none k (omega arith))
-
--- what is found from page 0 on is the first page that waits
-pub first_or_none : (v : HeapView) (found : Option ℕ) → IsSoundHeap v
-    → MatchOption found ((page : ℕ) → 0 ≤ page → is_unswept v page ≡ false) (IsNextUnswept v 0) → MatchOption found (v.unswept ≡ []) (IsFirstUnswept v)
-first_or_none v None sound none = none_waits v sound none
-first_or_none v (Some page) sound next = first_is v page sound next
 
 -- where none below a page waits, and none from it on, none waits
 pub none_from : (v : HeapView) (from : ℕ) → IsSoundHeap v → ((page : ℕ) → page < from → is_unswept v page ≡ false)

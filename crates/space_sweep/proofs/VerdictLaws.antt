@@ -6,7 +6,8 @@ use Rattle.space_heap.specs.HeapView.{HeapView}
 use Rattle.space_heap.specs.Objects.{object_of}
 use Rattle.space_heap.specs.Marking.{colour_of, is_white}
 use Rattle.space_heap.specs.Sweeping.{IsGone, settled, HasNoGone}
-use Rattle.space_heap.specs.Walks.{HasNoGoneFrom}
+use Rattle.space_heap.specs.declared.heap.walking.Walk.{Walk}
+use Rattle.space_heap.specs.Walks.{HasNoGoneFrom, IsWalkFrom}
 use Rattle.space_heap.proofs.MarkingLaws.{White-from_is_white}
 use Rattle.space_heap.proofs.SettledLaws.{is_gone-settled, none_gone}
 use Rattle.space_sweep.specs.Gone.{IsUnmarked}
@@ -19,6 +20,7 @@ taken v kind none a =
       λ u. is ∙ ap (λ b. b && is_white (colour_of v a)) (none_gone v a none ∙ u.0) ∙ ap is_white u.1,
     )
 
--- where none is found from the start none is gone
-pub none_gone_from : (v : HeapView) → HasNoGoneFrom v 0 → HasNoGone v
-none_gone_from v none a e = sym (ap (λ b. b && (object_of v a).gone) e) ∙ none a (omega arith)
+-- where a walk finds none from the start none is gone
+pub none_gone_walked : (v : HeapView) (walk : Walk) → ((w : HeapView) → IsWalkFrom w walk 0) → ((from : ℕ) → IsWalkFrom v walk from → HasNoGoneFrom v from) →
+    HasNoGone v
+none_gone_walked v walk begun none a e = sym (ap (λ b. b && (object_of v a).gone) e) ∙ none 0 (begun v) a (omega arith)

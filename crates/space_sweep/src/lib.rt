@@ -1,8 +1,7 @@
 //! Verdicts, and sweeps page by page.
 #![tactic(auto)]
 
-mod pages;
 mod verdicts;
 
-pub use pages::{first_unswept, next_unswept, sweep, sweep_first, unswept};
-pub use verdicts::{Dead, next_gone, verdict};
+pub use space_heap::Walk;
+pub use verdicts::{Dead, next_gone, next_unswept, sweep_first, unswept, verdict};

@@ -1,14 +1,15 @@
-// A verdict, and what it takes.
-ghost use Rattle.std.specs.Prelude.{◌≡◌, ◌↔◌, ◌<◌, ◌^◌, ℕ, [], MatchOption};
+// A verdict, what it takes, and the sweep of one page after another.
+ghost use Rattle.std.specs.Prelude.{◌≡◌, ◌↔◌, ◌<◌, ◌≤◌, ◌+◌, ◌^◌, ℕ, true, false, [], length, IfSome, MatchOption, if◌then◌else◌};
 ghost use Rattle.space_model.specs.Counts.{CountIs};
-ghost use Rattle.space_heap.specs.Objects.{object_of};
+ghost use Rattle.space_heap.specs.HeapView.{is_unswept};
 ghost use Rattle.space_heap.specs.SoundHeap.{IsSoundHeap};
 ghost use Rattle.space_heap.specs.Sweeping.{IsGone, settled, HasNoGone};
-ghost use Rattle.space_heap.specs.Walks.{HasNoGoneFrom};
+ghost use Rattle.space_heap.specs.Walks.{HasNoGoneFrom, IsWalkFrom, IsFurther};
 ghost use Rattle.space_sweep.specs.Gone.{IsUnmarked, IsNextDead};
+ghost use Rattle.space_sweep.specs.Sweeps.{phase_left, IsFirstUnswept, IsNextUnswept, SweepsFirst};
 
-use space_heap::Heap;
-use space_model::Kind;
+use space_heap::{Heap, Walk};
+use space_model::{Kind, Phase};
 
 /// A gone object that waits for the sweep of its page.
 #[derive(Clone, Copy, Debug, PartialEq, Eq)]
@@ -36,17 +37,161 @@ pub fn verdict(heap: &mut Heap, kind: Kind) -> u64
     heap.gone_count()
 }
 
-/// The gone object that isn't swept yet with the least address not below `from`, or `None` where
-/// there is none.
-pub fn next_gone(heap: &Heap, from: u64) -> Option<Dead>
-    ensures next { MatchOption result (HasNoGoneFrom heap.now from) (IsNextDead heap.now from) }
+/// The gone object that isn't swept yet with the least address from where the walk has come to, or `None` where there is
+/// none. The walk goes on behind the object.
+pub fn next_gone(heap: &Heap, walk: &mut Walk) -> Option<Dead>
+    ensures next { (from : ℕ) → IsWalkFrom heap.now walk.old from → MatchOption result (HasNoGoneFrom heap.now from) (IsNextDead heap.now from) }
+    ensures behind { IfSome result (λ dead. IsWalkFrom heap.now walk.new (dead.address + 1)) }
+    ensures further { IfSome result (λ dead. IsFurther heap.now walk.old walk.new) }
     ensures sound { IsSoundHeap heap.now }
 {
-    match heap.next_gone(from) {
+    match heap.next_gone(walk) {
         Some(found) => Some(Dead {
             name: found.name,
             address: found.address,
         }),
         None => None,
+    }
+}
+
+/// The lowest page from `from` on that waits for a sweep, or `None` where none does.
+pub fn next_unswept(heap: &Heap, from: u32) -> Option<u32>
+    ensures next { MatchOption result ((page : ℕ) → from ≤ page → is_unswept heap.now page ≡ false) (IsNextUnswept heap.now from) }
+    ensures sound { IsSoundHeap heap.now }
+{
+    // No page below `from` or above the answer is looked at, so a walk over all that wait looks at each page once.
+    let count = heap.page_count();
+    let mut page = from;
+    'pages: while page < count {
+        if heap.page_unswept(page) {
+            return Some(page);
+        }
+        page += 1;
+    }
+    None
+}
+
+// 1 where it is so.
+fn one_if(so: bool) -> u32
+    ensures one { result ≡ (if so then 1 else 0) }
+    ensures few { result ≤ 1 }
+{
+    u32::from(so)
+}
+
+/// How many pages wait for a sweep, for a command that sweeps some of them and tells how many are left.
+pub fn unswept(heap: &Heap) -> u32
+    ensures { result ≡ length heap.now.unswept }
+{
+    let mut count = 0;
+    'pages: for page in 0..heap.page_count() {
+        count += one_if(heap.page_unswept(page));
+    }
+    count
+}
+
+// The phase after the sweep of a page. None below `from` waits, so the search for another begins there.
+fn next_phase(heap: &Heap, from: u32) -> Phase
+    requires { (page : ℕ) → page < from → is_unswept heap.now page ≡ false }
+    ensures { result ≡ phase_left heap.now.unswept heap.now.phase }
+{
+    match next_unswept(heap, from) {
+        Some(_) => heap.phase(),
+        None => Phase::Idle,
+    }
+}
+
+/// Sweeps this page, the lowest that waits, and it alone. The answer is how many slots became free. After
+/// the last page nothing is under way. It takes no memory.
+pub fn sweep_first(heap: &mut Heap, page: u32) -> u64
+    requires first { IsFirstUnswept heap.old page }
+    requires few { heap.old.counters.freed < 2 ^ 62 }
+    ensures { SweepsFirst heap.old heap.new result }
+{
+    // Only pages from this one on are looked at, up to the next one that waits.
+    let before = heap.freed();
+    heap.sweep_page(page);
+    let phase = next_phase(heap, page);
+    heap.set_phase(phase);
+    let after = heap.freed();
+    after - before
+}
+
+#[cfg(test)]
+mod tests {
+    use super::*;
+    use space_heap::Colour;
+    use space_model::{Guard, Style};
+    use std::test::Fail;
+
+    // Whether an object was allocated that has so many fields.
+    fn is_allocated(heap: &mut Heap, fields: u64) -> bool {
+        fields <= 78
+            && heap.born() < 1 << 40
+            && heap.place(fields, Guard::Protected, Style::Keeping).is_ok()
+    }
+
+    // Marks the object that a word names, where it is white.
+    #[tactic(auto, using(space_heap::proofs::ObjectLaws::occupied_from_word, space_heap::proofs::ObjectLaws::object_from_word))]
+    fn mark(heap: &mut Heap, word: u64) {
+        if let Some(address) = heap.object_at(word) {
+            match heap.colour(address) {
+                Colour::White => heap.grey(address),
+                _ => {}
+            }
+        }
+        if let Some(address) = heap.last_grey() {
+            heap.blacken(address);
+        }
+    }
+
+    // How many a verdict took, where nothing is grey and none is gone.
+    #[tactic(auto, using(crate::proofs::VerdictLaws::none_gone_walked))]
+    fn take(heap: &mut Heap, kind: Kind) -> Option<u64> {
+        if heap.minor_verdicts() >= 1 << 40 || heap.other_verdicts() >= 1 << 40 {
+            return None;
+        }
+        match heap.last_grey() {
+            Some(_) => None,
+            None => match heap.next_gone(&mut Walk::new()) {
+                Some(_) => None,
+                None => Some(verdict(heap, kind)),
+            },
+        }
+    }
+
+    // How many slots the next sweep freed.
+    #[tactic(auto, using(crate::proofs::FirstPages::first_is))]
+    fn sweep_next(heap: &mut Heap) -> Option<u64> {
+        match next_unswept(heap, 0) {
+            Some(page) if heap.freed() < 1 << 40 => Some(sweep_first(heap, page)),
+            _ => None,
+        }
+    }
+
+    #[test]
+    fn what_is_not_marked_is_gone_until_its_page_is_swept(rt: HostRuntime) -> Result<(), Fail> {
+        let mut heap = Heap::new(rt.alloc(), 3)?;
+        assert!(rt; heap.add_page(0) == Ok(0) && heap.add_page(1) == Ok(1));
+        for fields in [3, 3, 3, 8] {
+            assert!(rt; is_allocated(&mut heap, fields));
+        }
+        mark(&mut heap, 0x10028);
+        assert!(rt; take(&mut heap, Kind::Full) == Some(3));
+        let mut walk = Walk::new();
+        for (name, address) in [(1, 0x10000), (3, 0x10050), (4, 0x20000)] {
+            assert!(rt; next_gone(&heap, &mut walk) == Some(Dead { name, address }));
+        }
+        assert!(rt; next_gone(&heap, &mut walk).is_none() && heap.object_at(0x10000).is_none());
+        assert!(rt; heap.lowest_free(0).is_none() && heap.phase() == Phase::Sweeping);
+        assert!(rt; next_unswept(&heap, 0) == Some(0) && unswept(&heap) == 2);
+        assert!(rt; next_unswept(&heap, 1) == Some(1) && next_unswept(&heap, 2).is_none());
+        assert!(rt; sweep_next(&mut heap) == Some(2));
+        assert!(rt; heap.lowest_free(0) == Some(0x10000) && heap.phase() == Phase::Sweeping);
+        assert!(rt; next_unswept(&heap, 0) == Some(1) && unswept(&heap) == 1);
+        assert!(rt; sweep_next(&mut heap) == Some(1) && sweep_next(&mut heap).is_none());
+        assert!(rt; heap.phase() == Phase::Idle && heap.spare_pages() == 1);
+        assert!(rt; heap.freed() == 3 && heap.other_verdicts() == 1 && heap.minor_verdicts() == 0);
+        Ok(())
     }
 }

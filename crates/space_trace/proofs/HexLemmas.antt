@@ -29,9 +29,14 @@ length_hex (suc k) (suc m) h =
     let less : suc m / 16 < 16 ^ k = omega (arith, pow-suc 16 k) in
     omega (arith, length_step (suc m) (omega arith), length_hex k (suc m / 16) less)
 
-pub pushed : (before mid after : List ℕ) (n digit : ℕ) → 0 < n → mid ≡ before ++ hex_digits (n / 16) → digit ≡ digit_glyph false (n % 16) →
-    after ≡ mid ++ digit ∷ [] → after ≡ before ++ hex_digits n
-pushed before mid after n digit some e d f = f ∙ rw (e, d, hex_digits-push n some) (append_assoc before (hex_digits (n / 16)) (digit_glyph false (n % 16) ∷ []))
+-- a digit more, put before those that follow it
+pub put_before : (left : ℕ) (digit : ℕ) (line after whole : List ℕ) → 0 < left → digit ≡ digit_glyph false (left % 16) → after ≡ digit ∷ line →
+    hex_digits left ++ line ≡ whole → hex_digits (left / 16) ++ after ≡ whole
+put_before left digit line after whole some d put so_far =
+    ap (λ ds. hex_digits (left / 16) ++ ds) (put ∙ ap (λ b. b ∷ line) d)
+    ∙ sym (append_assoc (hex_digits (left / 16)) (digit_glyph false (left % 16) ∷ []) line)
+    ∙ ap (λ ds. ds ++ line) (sym (hex_digits-push left some))
+    ∙ so_far
 
 -- the digits that a number is written with
 

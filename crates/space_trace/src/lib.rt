@@ -5,11 +5,10 @@
 mod collection_commands;
 mod laws;
 mod line_buffer;
+mod line_end;
 mod new_command;
-mod numbers;
 mod object_commands;
 mod operands;
-mod outputs;
 mod reader;
 mod root_commands;
 mod stack_commands;
@@ -18,7 +17,9 @@ mod tests;
 mod words;
 mod writer;
 
+// Files of commands name the numbers of `words` so.
 pub use laws::{readings_are_one, spellings_are_read};
-pub use numbers::read_number;
 pub use reader::{Malformed, read_command};
+use words as numbers;
+pub use words::read_number;
 pub use writer::{write_command, write_event, write_malformed, write_reply};

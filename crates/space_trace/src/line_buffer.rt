@@ -1,10 +1,10 @@
-// A line that is built before it is written.
-ghost use Rattle.std.specs.Prelude.{◌≡◌, ◌≤◌, ◌<◌, ◌+◌, ◌^◌, ◌++◌, false, length};
-ghost use Rattle.std.specs.Fmt.{digit_glyph, decimal};
-ghost use Rattle.std.specs.Int.Digits.{digits_of};
+// The line of a command, which is built before it is written.
+ghost use Rattle.std.specs.Prelude.{◌≡◌, ◌≤◌, ◌+◌, ◌++◌, length};
+ghost use Rattle.std.specs.Fmt.{decimal};
 ghost use Rattle.arrayvec.specs.ArrayVec.{array_vec_len};
-ghost use Rattle.space_model.specs.Spelling.{hex_digits, hex};
+ghost use Rattle.space_model.specs.Spelling.{hex};
 
+use crate::line_end::LineEnd;
 use arrayvec::ArrayVec;
 use itoa::Buffer;
 
@@ -32,40 +32,13 @@ pub fn put_decimal(line: &mut LineBuffer, number: u64)
     put(line, buffer.format(number).as_bytes());
 }
 
-// The digit's byte: `0` to `9` and `a` to `f`.
-fn glyph(digit: u8) -> u8
-    requires { digit < 16 }
-    ensures { result ≡ digit_glyph false digit }
-{
-    if digit < 10 {
-        b'0' + digit
-    } else {
-        b'a' + (digit - 10)
-    }
-}
-
-// Puts the digits of the number in base 16 at the end, and none for 0.
-fn put_hex_digits(line: &mut LineBuffer, number: u64)
-    requires { array_vec_len line.old + length (digits_of 16 number) ≤ 128 }
-    ensures items { line.new.items ≡ line.old.items ++ hex_digits number }
-    ensures len { array_vec_len line.new ≡ array_vec_len line.old + length (digits_of 16 number) }
-{
-    if number > 0 {
-        put_hex_digits(line, number / 16);
-        line.push(glyph((number % 16) as u8));
-    }
-}
-
 /// Puts the number in base 16 at the end, behind `0x`.
 pub fn put_hex(line: &mut LineBuffer, number: u64)
     requires { array_vec_len line.old ≤ 100 }
     ensures items { line.new.items ≡ line.old.items ++ hex number }
     ensures len { array_vec_len line.new ≤ array_vec_len line.old + 18 }
 {
-    put(line, b"0x");
-    if number == 0 {
-        put(line, b"0");
-    } else {
-        put_hex_digits(line, number);
-    }
+    let mut digits = LineEnd::new();
+    digits.put_hex(number);
+    put(line, digits.bytes());
 }

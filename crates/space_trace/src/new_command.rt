@@ -9,8 +9,7 @@ ghost use Rattle.space_model.specs.Spelling.{text_of_pieces, IsSpelled};
 ghost use Rattle.space_trace.specs.WordsLeft.{words_in, ReadsWords};
 
 use crate::line_buffer::{LineBuffer, put, put_decimal};
-use crate::numbers::read_number;
-use crate::words::four_words;
+use crate::words::{four_words, read_number};
 use space_model::{Command, Guard, Ident, Style};
 
 // The guard that the word is.

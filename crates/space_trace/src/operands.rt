@@ -8,7 +8,7 @@ ghost use Rattle.space_model.specs.declared.command.Operand.{Operand as TheOpera
 ghost use Rattle.space_model.specs.Grammar.{IsOperand, IsInput};
 
 use crate::line_buffer::{LineBuffer, put, put_decimal};
-use crate::numbers::read_number;
+use crate::words::read_number;
 use space_model::{Ident, Input, Operand};
 
 // The place of the stack word that the word is.

@@ -6,9 +6,8 @@ ghost use Rattle.space_model.specs.Spelling.{text_of_pieces, IsSpelled};
 ghost use Rattle.space_trace.specs.WordsLeft.{words_in, ReadsWords};
 
 use crate::line_buffer::{LineBuffer, put, put_hex};
-use crate::numbers::read_hex;
 use crate::operands::{put_input, read_input};
-use crate::words::{next_word, one_word};
+use crate::words::{next_word, one_word, read_hex};
 use space_model::{Command, Input};
 
 /// The command of the words after `push`.

@@ -1,22 +1,22 @@
 // Writes the lines of a trace. Each goes to the sink as one piece.
-ghost use Rattle.std.specs.Prelude.{◌≡◌, ◌<◌, [], ◌∷◌, ◌++◌, OnOk, OnErr};
+ghost use Rattle.std.specs.Prelude.{◌≡◌, ◌≤◌, ◌<◌, ◌+◌, [], ◌∷◌, ◌++◌, length, OnOk, OnErr};
 ghost use Rattle.arrayvec.specs.ArrayVec.{array_vec_len};
 ghost use Rattle.std.specs.Io.KnownBytes.{Appends};
 ghost use Rattle.space_io.specs.Causes.{HasCause};
 ghost use Rattle.space_io.specs.Sinks.{AppendsPrefix, AppendsPart};
 ghost use Rattle.space_model.specs.CommandTexts.{command_pieces};
 ghost use Rattle.space_model.specs.Spelling.{text_of_pieces, IsSpelled};
-ghost use Rattle.space_model.specs.Texts.{event_pieces, malformed_pieces, reply_pieces, line_of_pieces};
+ghost use Rattle.space_model.specs.Texts.{kind_text, event_pieces, value_pieces, refusal_text, truth_text, named_pieces, reply_pieces, malformed_pieces, line_of_pieces};
 
 use crate::collection_commands::{put_gc, put_minor};
 use crate::line_buffer::LineBuffer;
+use crate::line_end::LineEnd;
 use crate::new_command::put_new;
 use crate::object_commands::{put_raw_store, put_same, put_store, put_unprotect};
-use crate::outputs::{put_event, put_malformed, put_reply};
 use crate::root_commands::{put_drop, put_load, put_set};
 use crate::stack_commands::{put_pop, put_push, put_raw};
 use space_io::{Sink, WriteFault, write_all};
-use space_model::{Command, Event, Reply};
+use space_model::{Command, Event, Kind, Refusal, Reply, Value};
 
 const LF: u8 = b'\n';
 
@@ -61,7 +61,7 @@ fn put_command(line: &mut LineBuffer, command: Command)
     }
 }
 
-// Writes the line and its LF, as one piece.
+// Writes the command's line and its LF, as one piece.
 fn write_line<K: Sink>(line: &mut LineBuffer, sink: &mut K) -> Result<(), WriteFault>
     requires { array_vec_len line.old < 128 }
     ensures bytes { OnOk result (Appends (K.written sink.old) (K.written sink.new) (line.old.items ++ 10 ∷ [])) }
@@ -88,6 +88,144 @@ pub fn write_command<K: Sink>(command: &Command, sink: &mut K) -> Result<(), Wri
     write_line(&mut line, sink)
 }
 
+// The end of each line of output: its LF.
+fn line_end() -> LineEnd
+    ensures { result ≡ 10 ∷ [] }
+{
+    let mut line = LineEnd::new();
+    line.put(b"\n");
+    line
+}
+
+fn kind_bytes(kind: Kind) -> &'static [u8]
+    ensures text { result.now ≡ kind_text kind }
+    ensures len { length result.now ≤ 5 }
+{
+    match kind {
+        Kind::Minor => b"minor",
+        Kind::Major => b"major",
+        Kind::Full => b"full",
+    }
+}
+
+// Puts the event's line before its LF.
+fn put_event(line: &mut LineEnd, event: Event)
+    requires { line.old ≡ 10 ∷ [] }
+    ensures line { line.new ≡ line_of_pieces (event_pieces event) }
+    ensures spelled { IsSpelled (event_pieces event) }
+{
+    match event {
+        Event::Gone { name } => {
+            line.put_decimal(name);
+            line.put(b"! gone #");
+        }
+        Event::Verdict { kind, gone } => {
+            line.put_decimal(gone);
+            line.put(b" ");
+            line.put(kind_bytes(kind));
+            line.put(b"! verdict ");
+        }
+    }
+}
+
+// Puts the value before the end of a line, which has 20 bytes at most.
+fn put_value(line: &mut LineEnd, value: Value)
+    requires { length line.old ≤ 20 }
+    ensures line { line.new ≡ text_of_pieces (value_pieces value) ++ line.old }
+    ensures spelled { IsSpelled (value_pieces value) }
+{
+    match value {
+        Value::Nil => line.put(b"nil"),
+        Value::Small(number) => {
+            line.put_decimal(number);
+            line.put(b"=");
+        }
+        Value::Name(name) => {
+            line.put_decimal(name);
+            line.put(b"#");
+        }
+    }
+}
+
+fn refusal_bytes(why: Refusal) -> &'static [u8]
+    ensures text { result.now ≡ refusal_text why }
+    ensures len { length result.now ≤ 40 }
+{
+    match why {
+        Refusal::TooLarge => b"error too large",
+        Refusal::NoRoot => b"error no root",
+        Refusal::NoWord => b"error no word",
+        Refusal::NotObject => b"error not an object",
+        Refusal::NoField => b"error no field",
+        Refusal::Protected => b"error protected",
+    }
+}
+
+// Puts the name that a word has, or that it has none, before the end of a line, which has one byte at most.
+fn put_named(line: &mut LineEnd, names: Option<u64>)
+    requires { length line.old ≤ 1 }
+    ensures line { line.new ≡ text_of_pieces (named_pieces names) ++ line.old }
+    ensures len { length line.new ≤ 22 }
+    ensures spelled { IsSpelled (named_pieces names) }
+{
+    match names {
+        None => line.put(b"-"),
+        Some(name) => {
+            line.put_decimal(name);
+            line.put(b"#");
+        }
+    }
+}
+
+fn truth_bytes(truth: bool) -> &'static [u8]
+    ensures text { result.now ≡ truth_text truth }
+    ensures len { length result.now ≤ 5 }
+{
+    if truth { b"true" } else { b"false" }
+}
+
+// Puts the reply's line before its LF.
+fn put_reply(line: &mut LineEnd, reply: Reply)
+    requires { line.old ≡ 10 ∷ [] }
+    ensures line { line.new ≡ line_of_pieces (reply_pieces reply) }
+    ensures spelled { IsSpelled (reply_pieces reply) }
+{
+    match reply {
+        Reply::Made { name, address } => {
+            line.put_hex(address);
+            line.put(b" ");
+            line.put_decimal(name);
+            line.put(b"#");
+        }
+        Reply::Full => line.put(b"full"),
+        Reply::NoMemory => line.put(b"no memory"),
+        Reply::Done => line.put(b"ok"),
+        Reply::Pushed { word, names } => {
+            put_named(line, names);
+            line.put(b" names ");
+            line.put_hex(word);
+            line.put(b"word ");
+        }
+        Reply::Read { value } => put_value(line, value),
+        Reply::Truth { yes } => line.put(truth_bytes(yes)),
+        Reply::Scanned { count } => {
+            line.put_decimal(count);
+            line.put(b"ok scanned ");
+        }
+        Reply::Refused { why } => line.put(refusal_bytes(why)),
+    }
+}
+
+// Puts the line that tells of a malformed or too long one before its LF.
+fn put_malformed(line: &mut LineEnd, number: u64)
+    requires { line.old ≡ 10 ∷ [] }
+    ensures { line.new ≡ line_of_pieces (malformed_pieces number) }
+{
+    line.put(b": malformed");
+    line.put_decimal(number);
+    line.put(b"line ");
+}
+
 /// Writes the line of the event. At an `Err` only a prefix of it was written, maybe none.
 pub fn write_event<K: Sink>(event: &Event, sink: &mut K) -> Result<(), WriteFault>
     ensures bytes { OnOk result (Appends (K.written sink.old) (K.written sink.new) (line_of_pieces (event_pieces event.now))) }
@@ -96,9 +234,9 @@ pub fn write_event<K: Sink>(event: &Event, sink: &mut K) -> Result<(), WriteFaul
     ensures cause { HasCause (K.faults sink.old) (K.faults sink.new) result }
     ensures spelled { IsSpelled (event_pieces event.now) }
 {
-    let mut line = LineBuffer::new();
+    let mut line = line_end();
     put_event(&mut line, *event);
-    write_line(&mut line, sink)
+    write_all(sink, line.bytes())
 }
 
 /// Writes the line of the reply. At an `Err` only a prefix of it was written, maybe none.
@@ -109,9 +247,9 @@ pub fn write_reply<K: Sink>(reply: &Reply, sink: &mut K) -> Result<(), WriteFaul
     ensures cause { HasCause (K.faults sink.old) (K.faults sink.new) result }
     ensures spelled { IsSpelled (reply_pieces reply.now) }
 {
-    let mut line = LineBuffer::new();
+    let mut line = line_end();
     put_reply(&mut line, *reply);
-    write_line(&mut line, sink)
+    write_all(sink, line.bytes())
 }
 
 /// Writes that the line with this number is malformed or too long. At an `Err` only a prefix of it was written, maybe none.
@@ -121,7 +259,7 @@ pub fn write_malformed<K: Sink>(number: u64, sink: &mut K) -> Result<(), WriteFa
     ensures part { OnErr result (AppendsPart (K.written sink.old) (K.written sink.new) (line_of_pieces (malformed_pieces number))) }
     ensures cause { HasCause (K.faults sink.old) (K.faults sink.new) result }
 {
-    let mut line = LineBuffer::new();
+    let mut line = line_end();
     put_malformed(&mut line, number);
-    write_line(&mut line, sink)
+    write_all(sink, line.bytes())
 }

@@ -26,7 +26,7 @@ use Rattle.space_heap.specs.Walks.{HasNoneFrom, IsNext, HasNoneOn, IsNextOn, is_
 use Rattle.space_heap.specs.declared.heap.Heap.TheInside.{Inside}
 use Rattle.space_heap.specs.Inside.{Rest, rest_of, view_with, view_from, AreMarksOf, AreAllMarks, IsHeap}
 use Rattle.space_heap.specs.words.SlotPlaces.{is_slot_of, IsSlotAt}
-use Rattle.space_heap.proofs.starts.Starts.{Start, start_parts, start_address, no_start_past}
+use Rattle.space_heap.proofs.starts.Starts.{Start, start_parts, start_address, no_start_past, few_slots}
 use Rattle.space_heap.proofs.Laws.{slot_at_none}
 use Rattle.space_heap.proofs.ObjectLaws.{occupied_from_object}
 use Rattle.space_heap.proofs.starts.PoolStarts.{none_spare}
@@ -181,6 +181,13 @@ module _ (h : Inside) (v : HeapView) (view_is : view_from h ≡ v) (inv : IsHeap
   pub found_next : IsNextOn (is_sought sought v) page from a
   found_next = subst (λ v. IsNextOn (is_sought sought v) page from a) view_is
       (next_on_page h.pools h.marks.items (rest_of h) page inv.marks sound sought pool start from its known first s a is next_in)
+
+  pub found_few : s < 1638
+  found_few =
+      let here = sought_within (page_at h.pools page) (marks_at h.marks.items page) (inv.marks.of_page page) sought s next_in.is in
+      let within = places.slot_within h.pools pool page s sound its here in
+      let few = few_slots pool known in
+      omega arith
 
   pub found_slot : IsSlotAt h.pools a page s
   found_slot = sought_at h.pools h.marks.items (rest_of h) page inv.marks sound sought pool start from its known first s a is next_in.is

@@ -1,4 +1,0 @@
-use Rattle.space_trace.proofs.line_buffer.+put_hex_digits.Given as goal
-
-abbrev pub decreases-put_hex_digits : goal.decreases-put_hex_digits
-decreases-put_hex_digits l = l.number
