@@ -4,9 +4,9 @@ use Rattle.std.proofs.lemmas.Bool.{cond-true, cond-false}
 use Rattle.space_heap.specs.HeapView.{HeapView}
 use Rattle.space_heap.specs.Objects.{is_occupied, is_object, object_of, written}
 use Rattle.space_heap.specs.Marking.{colour_of, is_white, visited, greyed}
-use Rattle.space_heap.specs.Generations.{is_old, is_aged, remembered_as, kept_at, unprotected_at}
+use Rattle.space_heap.specs.Generations.{is_old, is_aged, remembered_as, kept_at, unprotected_at, is_protected_at}
 use Rattle.space_heap.proofs.ObjectLaws.{occupied_from_object, is_object-with_object, is_occupied-with_object}
-use Rattle.space_barrier.specs.Barrier.{is_protected_at, remembered_for, barred, stored, unprotected}
+use Rattle.space_barrier.specs.Barrier.{remembered_for, barred, stored, unprotected}
 
 -- a write of a field, and a change of a mark, leave which words name objects
 pub is_object-written : (v : HeapView) (a i word b : ℕ) → is_object (written v a i word) b ≡ is_object v b

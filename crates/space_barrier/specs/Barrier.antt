@@ -2,12 +2,11 @@
 use Rattle.std.specs.Prelude.{ℕ, Bool, true, false, not, ◌&&◌, if◌then◌else◌}
 use Rattle.space_model.specs.declared.phase.Phase.{Phase}
 use Rattle.space_model.specs.declared.phase.Phase.TheVariants.{Idle, Marking, Sweeping, Moving, Fixing}
-use Rattle.space_model.specs.Ages.{is_protected_guard}
 use Rattle.space_heap.specs.HeapView.{HeapView}
 use Rattle.space_heap.specs.Objects.{is_object, object_of, written}
 use Rattle.space_heap.specs.Marking.{colour_of, is_white, greyed}
 use Rattle.space_heap.specs.planes.RecolouredMarks.{is_black}
-use Rattle.space_heap.specs.Generations.{is_old, is_aged, remembered_as, kept_at, unprotected_at}
+use Rattle.space_heap.specs.Generations.{is_old, is_aged, is_protected_at, remembered_as, kept_at, unprotected_at}
 
 -- whether a marking is under way
 abbrev pub is_marking : Phase → Bool
@@ -16,10 +15,6 @@ is_marking Marking = true
 is_marking Sweeping = false
 is_marking Moving = false
 is_marking Fixing = false
-
--- whether the write barrier protects the object at an address
-abbrev pub is_protected_at : HeapView → ℕ → Bool
-is_protected_at v a = is_protected_guard (object_of v a).guard
 
 -- an object of age 2 or more is remembered where the child that it gets isn't old
 abbrev pub remembered_for : HeapView → ℕ → ℕ → HeapView

@@ -1,7 +1,8 @@
 // Stores into objects that the write barrier doesn't protect, and how it stops protecting one.
 ghost use Rattle.std.specs.Prelude.{◌≡◌, ◌<◌, true, false, length};
 ghost use Rattle.space_heap.specs.Objects.{is_object, object_of, written};
-ghost use Rattle.space_barrier.specs.Barrier.{is_protected_at, unprotected};
+ghost use Rattle.space_heap.specs.Generations.{is_protected_at};
+ghost use Rattle.space_barrier.specs.Barrier.{unprotected};
 
 use crate::stores::is_protected;
 use space_heap::Heap;

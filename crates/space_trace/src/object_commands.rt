@@ -6,9 +6,8 @@ ghost use Rattle.space_model.specs.Spelling.{text_of_pieces, IsSpelled};
 ghost use Rattle.space_trace.specs.WordsLeft.{words_in, ReadsWords};
 
 use crate::line_buffer::{LineBuffer, put, put_decimal};
-use crate::numbers::read_number;
 use crate::operands::{put_input, put_operand, read_input, read_operand};
-use crate::words::{one_word, three_words, two_words};
+use crate::words::{one_word, read_number, three_words, two_words};
 use space_model::{Command, Input, Operand};
 
 /// The command of the words after `store`.

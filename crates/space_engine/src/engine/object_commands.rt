@@ -7,7 +7,7 @@ ghost use Rattle.space_model.specs.Refusals.{and_then, both as both_results};
 ghost use Rattle.space_model.specs.CommandTexts.{IsWritableInput};
 ghost use Rattle.space_model.specs.State.{State};
 ghost use Rattle.space_heap.specs.Objects.{is_object, object_of};
-ghost use Rattle.space_barrier.specs.Barrier.{is_protected_at};
+ghost use Rattle.space_heap.specs.Generations.{is_protected_at};
 ghost use Rattle.space_engine.specs.Stands.{Holds};
 ghost use Rattle.space_engine.specs.Steps.{Answers};
 ghost use Rattle.space_engine.specs.Turns.{IsOneTurn};
