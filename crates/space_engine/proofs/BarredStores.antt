@@ -11,11 +11,11 @@ use Rattle.space_heap.specs.Slots.{ObjectView}
 use Rattle.space_heap.specs.HeapView.{HeapView}
 use Rattle.space_heap.specs.Objects.{is_occupied, is_object, object_of, written}
 use Rattle.space_heap.specs.Marking.{colour_of, is_white, greyed}
-use Rattle.space_heap.specs.Generations.{is_old, is_aged, remembered_as}
+use Rattle.space_heap.specs.Generations.{is_old, is_aged, remembered_as, is_protected_at}
 use Rattle.space_heap.specs.planes.RecolouredMarks.{is_black}
 use Rattle.space_heap.proofs.MarkingLaws.{stays-recoloured}
 use Rattle.space_heap.proofs.ObjectLaws.{stays, rest-with_object, is_occupied-with_object, object_of-with_object_same, object_of-with_object_other}
-use Rattle.space_barrier.specs.Barrier.{is_marking, is_protected_at, remembered_for, greyed_for, barred, stored}
+use Rattle.space_barrier.specs.Barrier.{is_marking, remembered_for, greyed_for, barred, stored}
 use Rattle.space_barrier.proofs.StoreLaws.{stored_barred, stored_plain}
 use Rattle.space_tracing.specs.Graph.{SameGraph}
 use Rattle.space_tracing.proofs.Same.{SameGraph-refl, SameGraph-then, SameGraph-with_object, SameGraph-recoloured, same_part, is_object-same}

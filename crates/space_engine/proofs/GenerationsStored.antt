@@ -21,9 +21,9 @@ use Rattle.space_model.proofs.ValuesKept.{IsPresentValue, name_present}
 use Rattle.space_heap.specs.Slots.{ObjectView}
 use Rattle.space_heap.specs.HeapView.{HeapView}
 use Rattle.space_heap.specs.Objects.{is_occupied, is_object, object_of, written}
-use Rattle.space_heap.specs.Generations.{is_old, is_aged}
+use Rattle.space_heap.specs.Generations.{is_old, is_aged, is_protected_at}
 use Rattle.space_heap.proofs.ObjectLaws.{stays, occupied_from_object}
-use Rattle.space_barrier.specs.Barrier.{is_protected_at, stored}
+use Rattle.space_barrier.specs.Barrier.{stored}
 use Rattle.space_barrier.proofs.StoreLaws.{is_object-written}
 use Rattle.space_tracing.proofs.Same.{same_part}
 use Rattle.space_engine.specs.Generations.{HasGenerations}

@@ -24,7 +24,7 @@ use Rattle.space_model.proofs.MapLaws.{some_get}
 use Rattle.space_model.proofs.ValuesHold.{named_holds, write_holds}
 use Rattle.space_model.proofs.ValuesKept.{IsPresentValue, name_present, present_kept}
 use Rattle.space_heap.specs.Objects.{is_object, object_of}
-use Rattle.space_barrier.specs.Barrier.{is_protected_at}
+use Rattle.space_heap.specs.Generations.{is_protected_at}
 use Rattle.space_engine.specs.Stands.{Holds}
 use Rattle.space_engine.specs.Steps.{Answers}
 use Rattle.space_engine.specs.Views.{View, with_field, with_raw_field, with_unprotected}

@@ -10,7 +10,8 @@ use Rattle.space_model.proofs.ValuesKept.{IsPresentValue}
 use Rattle.space_heap.specs.HeapView.{HeapView}
 use Rattle.space_heap.specs.Objects.{object_of, written}
 use Rattle.space_heap.proofs.ObjectLaws.{occupied_from_object, resolved-with_object}
-use Rattle.space_barrier.specs.Barrier.{is_protected_at, stored}
+use Rattle.space_barrier.specs.Barrier.{stored}
+use Rattle.space_heap.specs.Generations.{is_protected_at}
 use Rattle.space_engine.specs.Stands.{Represents, Holds}
 use Rattle.space_engine.specs.Views.{View, with_field, with_raw_field}
 use Rattle.space_engine.proofs.BarredStores.{IsBarred, stored_is, heap_barred}

@@ -14,11 +14,11 @@ use Rattle.space_model.proofs.SlotLaws.{length-with_item}
 use Rattle.space_heap.specs.Slots.{ObjectView}
 use Rattle.space_heap.specs.HeapView.{HeapView, pool_at}
 use Rattle.space_heap.specs.Objects.{is_occupied, is_object, is_moved, object_of, resolved, with_object}
-use Rattle.space_heap.specs.Generations.{is_aged, kept_at, unprotected_at}
+use Rattle.space_heap.specs.Generations.{is_aged, kept_at, unprotected_at, is_protected_at}
 use Rattle.space_heap.proofs.FreeLaws.{is_moved-with_object}
 use Rattle.space_heap.proofs.Laws.{SameRest}
 use Rattle.space_heap.proofs.ObjectLaws.{occupied_from_object, is_object_is, is_occupied-with_object, object_of-with_object_same, object_of-with_object_other, resolved-with_object, pool_at-with_object, count-with_object, rest-with_object}
-use Rattle.space_barrier.specs.Barrier.{is_protected_at, unprotected}
+use Rattle.space_barrier.specs.Barrier.{unprotected}
 use Rattle.space_barrier.proofs.StoreLaws.{unprotected_same, unprotected_kept, unprotected_young}
 use Rattle.space_engine.specs.Stands.{IsObjectOf, HasObjects, HasCorpses, HasLeft, HasCounted, HeapRepresents}
 use Rattle.space_engine.proofs.Outcomes.{some_same}
