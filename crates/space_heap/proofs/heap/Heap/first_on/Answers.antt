@@ -22,14 +22,16 @@ pub slot-requires : goal.slot-requires
 slot-requires c =
     let known = (c.page_pool.ensures.sound.sound c.args.page).known c.in-Some.pool (sym c.in-Some.ensures.pool) in
     found_used c.self.inside _ c.self.view_is c.self.invariant c.page_pool.ensures.sound c.args.sought c.args.page c.in-Some.pool
-    c.args.start (slot_address c.args.page c.in-Some.pool c.args.start) c.in-Some-first.slot c.address_of-address.result (sym c.in-Some.ensures.pool) (λ k within. in_order c.args.page c.in-Some.pool c.args.start k known)
+    c.args.start (slot_address c.args.page c.in-Some.pool c.args.start) c.in-Some-first.slot c.address_of-address.result (sym c.in-Some.ensures.pool)
+    (λ k within. in_order c.args.page c.in-Some.pool c.args.start k known)
     c.address_of-address.ensures _ c.marks_of.ensures c.in-Some-first.ensures
 
 pub bounds-slot-1 : goal.bounds-slot-1
 bounds-slot-1 c =
     let known = (c.page_pool.ensures.sound.sound c.args.page).known c.in-Some.pool (sym c.in-Some.ensures.pool) in
     let used = found_used c.self.inside _ c.self.view_is c.self.invariant c.page_pool.ensures.sound c.args.sought c.args.page c.in-Some.pool
-    c.args.start (slot_address c.args.page c.in-Some.pool c.args.start) c.in-Some-first.slot c.address_of-address.result (sym c.in-Some.ensures.pool) (λ k within. in_order c.args.page c.in-Some.pool c.args.start k known)
+    c.args.start (slot_address c.args.page c.in-Some.pool c.args.start) c.in-Some-first.slot c.address_of-address.result (sym c.in-Some.ensures.pool)
+    (λ k within. in_order c.args.page c.in-Some.pool c.args.start k known)
     c.address_of-address.ensures _ c.marks_of.ensures c.in-Some-first.ensures in
     let wide = wide_slot c.self.inside.pools c.args.page c.in-Some-first.slot c.page_pool.ensures.sound used in
     let long = c.slot.ensures.len in
@@ -52,7 +54,8 @@ pub returns-in-Some-first-clause-on : goal.returns-in-Some-first-clause-on
 returns-in-Some-first-clause-on c =
     let known = (c.page_pool.ensures.sound.sound c.args.page).known c.in-Some.pool (sym c.in-Some.ensures.pool) in
     (found_next c.self.inside _ c.self.view_is c.self.invariant c.page_pool.ensures.sound c.args.sought c.args.page c.in-Some.pool
-    c.args.start (slot_address c.args.page c.in-Some.pool c.args.start) c.in-Some-first.slot c.address_of-address.result (sym c.in-Some.ensures.pool) (λ k within. in_order c.args.page c.in-Some.pool c.args.start k known)
+    c.args.start (slot_address c.args.page c.in-Some.pool c.args.start) c.in-Some-first.slot c.address_of-address.result (sym c.in-Some.ensures.pool)
+    (λ k within. in_order c.args.page c.in-Some.pool c.args.start k known)
     c.address_of-address.ensures _ c.marks_of.ensures c.in-Some-first.ensures).on
 
 pub returns-in-Some-first-clause-start : goal.returns-in-Some-first-clause-start
@@ -62,7 +65,8 @@ pub returns-in-Some-first-clause-few : goal.returns-in-Some-first-clause-few
 returns-in-Some-first-clause-few c =
     let known = (c.page_pool.ensures.sound.sound c.args.page).known c.in-Some.pool (sym c.in-Some.ensures.pool) in
     found_few c.self.inside _ c.self.view_is c.self.invariant c.page_pool.ensures.sound c.args.sought c.args.page c.in-Some.pool
-    c.args.start (slot_address c.args.page c.in-Some.pool c.args.start) c.in-Some-first.slot c.address_of-address.result (sym c.in-Some.ensures.pool) (λ k within. in_order c.args.page c.in-Some.pool c.args.start k known)
+    c.args.start (slot_address c.args.page c.in-Some.pool c.args.start) c.in-Some-first.slot c.address_of-address.result (sym c.in-Some.ensures.pool)
+    (λ k within. in_order c.args.page c.in-Some.pool c.args.start k known)
     c.address_of-address.ensures _ c.marks_of.ensures c.in-Some-first.ensures
 
 pub returns-in-Some-first-clause-next : goal.returns-in-Some-first-clause-next
