@@ -5,3 +5,4 @@ pub mod SoundSweeps
 pub mod AllSweeps
 pub mod HeapVerdictLaws
 pub mod ToldLines
+mod KindMarkings

@@ -1,6 +1,7 @@
 // `run` on traces in memory, with the answers that its definitions give, written out by hand.
 mod collections;
 mod ends;
+mod generations;
 mod objects;
 mod stack;
 
