@@ -9,7 +9,6 @@ use Rattle.space_heap.proofs.FreeLaws.{is_moved-with_object}
 use Rattle.space_heap.proofs.GoneLaws.{is_gone-with_object}
 use Rattle.space_heap.proofs.ObjectLaws.{occupied_from_object, stays, rest-with_object}
 use Rattle.space_barrier.specs.Barrier.{stored, unprotected}
-use Rattle.space_tracing.specs.Graph.{SameGraph}
 use Rattle.space_tracing.proofs.Same.{same_part}
 use Rattle.space_engine.specs.Turns.{IsAtRest, IsOneTurn}
 use Rattle.space_engine.proofs.BarredStores.{IsBarred, stored_is}

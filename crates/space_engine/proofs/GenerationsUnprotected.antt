@@ -18,7 +18,7 @@ use Rattle.space_heap.specs.HeapView.{HeapView}
 use Rattle.space_heap.specs.Objects.{object_of}
 use Rattle.space_heap.specs.Generations.{is_old, is_aged}
 use Rattle.space_heap.proofs.ObjectLaws.{occupied_from_object}
-use Rattle.space_barrier.specs.Barrier.{is_protected_at, unprotected}
+use Rattle.space_barrier.specs.Barrier.{unprotected}
 use Rattle.space_engine.specs.Generations.{age_of, HasGenerations}
 use Rattle.space_engine.specs.Stands.{Represents, Holds}
 use Rattle.space_engine.specs.Views.{View, with_unprotected}
