@@ -9,7 +9,6 @@ use Rattle.space_heap.proofs.FreeLaws.{is_moved-with_object}
 use Rattle.space_heap.proofs.GoneLaws.{is_gone-with_object}
 use Rattle.space_heap.proofs.ObjectLaws.{occupied_from_object, stays, rest-with_object}
 use Rattle.space_barrier.specs.Barrier.{stored, unprotected}
-use Rattle.space_tracing.specs.Graph.{SameGraph}
 use Rattle.space_tracing.proofs.Same.{same_part}
 use Rattle.space_engine.specs.Turns.{IsAtRest, IsOneTurn}
 use Rattle.space_engine.proofs.BarredStores.{IsBarred, stored_is}
@@ -80,7 +79,8 @@ module _ (v : HeapView) (address : ℕ) (there : is_object v address ≡ true) w
   changed = unprotected_is v address (occupied_from_object v address there)
 
   gone_stays : (a : ℕ) → (object_of u a).gone ≡ (object_of v a).gone
-  gone_stays = part_stays (λ (o : ObjectView). o.gone) v u address (unprotected_object before) changed (unprotected_keeps (λ (o : ObjectView). o.gone) before refl refl)
+  gone_stays = part_stays (λ (o : ObjectView). o.gone) v u address (unprotected_object before) changed
+      (unprotected_keeps (λ (o : ObjectView). o.gone) before refl refl)
 
   colour_stays : (a : ℕ) → (object_of u a).colour ≡ (object_of v a).colour
   colour_stays = part_stays (λ (o : ObjectView). o.colour) v u address (unprotected_object before) changed

@@ -1,5 +1,5 @@
 -- The part Generations after an object was allocated: it has age 0, no mark and no child, and every other one is as it was.
-use Rattle.std.proofs.Common.{◌≡◌, ◌≢◌, ◌⊎◌, ℕ, zero, suc, ◌+◌, ◌-◌, ◌<◌, ◌≤◌, Bool, true, false, min, if◌then◌else◌, List, [], ◌∷◌, ◌++◌, length, get_or, nat_eq, true≢false, refl, sym, ap, ◌∙◌, subst, arith, Option, None, Some, ⊎_elim}
+use Rattle.std.proofs.Common.{◌≡◌, ◌≢◌, ◌⊎◌, ℕ, zero, suc, ◌+◌, ◌-◌, ◌<◌, ◌≤◌, Bool, true, false, min, if◌then◌else◌, List, [], ◌∷◌, ◌++◌, length, get_or, nat_eq, refl, sym, ap, ◌∙◌, subst, arith, Option, None, Some, ⊎_elim}
 use Rattle.std.specs.Prelude.{is_some, replicate}
 use Rattle.std.specs.List.{flat_map}
 use Rattle.std.specs.Ordering.{nat_cmp}
@@ -7,12 +7,12 @@ use Rattle.std.specs.Set.{is_member}
 use Rattle.std.specs.FinMap.{FinMap, get}
 use Rattle.std.proofs.Math.ListN.{get_or-append}
 use Rattle.std.proofs.Math.Seq.{get_or-append_seam}
-use Rattle.std.proofs.lemmas.Bool.{cases_Bool, cases_eq, false≢true}
+use Rattle.std.proofs.lemmas.Bool.{cases_eq, false≢true}
 use Rattle.space_model.specs.declared.object.Guard.{Guard}
 use Rattle.space_model.specs.declared.object.Style.{Style}
 use Rattle.space_model.specs.declared.value.Value.TheVariants.{Nil}
 use Rattle.space_model.specs.Ages.{is_protected_guard, is_protected, outlived_by}
-use Rattle.space_model.specs.Graph.{Item, item_of, names_of, children, IsChild}
+use Rattle.space_model.specs.Graph.{Item, names_of, children, IsChild}
 use Rattle.space_model.specs.Pieces.{new_item}
 use Rattle.space_model.specs.State.{Collector}
 use Rattle.space_model.proofs.NamesKept.{children-push}

@@ -1,5 +1,5 @@
 -- The part Generations of the relation, read by names; and that it stays where no object's guard, age or kept mark changes.
-use Rattle.std.proofs.Common.{◌≡◌, ◌⊎◌, ◌&&◌, ℕ, ◌≤◌, Bool, true, false, not, min, nat_le, if◌then◌else◌, List, nat_eq, true≢false, refl, sym, ap, ◌∙◌, arith, Option, Some, ⊎_elim, inl, inr}
+use Rattle.std.proofs.Common.{◌≡◌, ◌⊎◌, ◌&&◌, ℕ, Bool, true, false, min, nat_le, if◌then◌else◌, List, nat_eq, true≢false, refl, sym, ap, ◌∙◌, arith, Option, Some, ⊎_elim, inl, inr}
 use Rattle.std.specs.Prelude.{is_some}
 use Rattle.std.specs.Ordering.{nat_cmp}
 use Rattle.std.specs.Set.{is_member}
@@ -87,8 +87,8 @@ module _ (graph graph' : List Item) (place : FinMap nat_cmp ℕ) (collector : Co
     (more : (n : ℕ) → is_member nat_eq mixed n ≡ true → is_member nat_eq mixed' n ≡ true)
     (objects : (name address : ℕ) → get place name ≡ Some address → KeepsMarks mixed' name (object_of heap address) (object_of heap' address))
     (children : (parent child a c : ℕ) → get place parent ≡ Some a → get place child ≡ Some c → IsChild graph' parent child →
-        is_old (object_of heap a) ≡ true → (object_of heap' a).remembered ≡ false →
-        IsChild graph parent child ⊎ (is_old (object_of heap c) ≡ true)) (phase : Phase) (cursor : ℕ) (stale : List (ℕ × ℕ)) where
+    is_old (object_of heap a) ≡ true → (object_of heap' a).remembered ≡ false →
+    IsChild graph parent child ⊎ (is_old (object_of heap c) ≡ true)) (phase : Phase) (cursor : ℕ) (stale : List (ℕ × ℕ)) where
   -- the graph, what was noted and the marks changed no more than that, and the collector's other parts as they may
   pub generations_kept : HasGenerations graph' place (record collector { phase = phase; cursor = cursor; stale = stale }) mixed' heap'
   generations_kept = record {

@@ -1,5 +1,5 @@
 -- The part Generations after a field was written: with the write barrier where it protects the object, and without it where it doesn't.
-use Rattle.std.proofs.Common.{◌≡◌, ◌⊎◌, ◌&&◌, ℕ, ◌<◌, ◌≤◌, Bool, true, false, min, nat_le, if◌then◌else◌, true≢false, List, [], length, nat_eq, refl, sym, ap, ◌∙◌, subst, arith, Option, Some, ⊎_elim, inl, inr}
+use Rattle.std.proofs.Common.{◌≡◌, ℕ, ◌<◌, ◌≤◌, Bool, true, false, min, nat_le, if◌then◌else◌, true≢false, List, length, nat_eq, refl, sym, ap, ◌∙◌, subst, arith, Option, Some, ⊎_elim, inl, inr}
 use Rattle.std.specs.Prelude.{is_some}
 use Rattle.std.specs.Option.{unwrap_or}
 use Rattle.std.specs.Ordering.{nat_cmp}

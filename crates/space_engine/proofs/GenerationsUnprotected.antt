@@ -205,7 +205,9 @@ module _ (v : View) (s : State) (h : Holds v s) (name address : ℕ) (at : get s
   outlived_after = by_name (λ n o. o.kept ≡ true → 1 ≤ outlived_by outlived n)
       (λ k. ⊎_elim
       (λ was. g.kept.outlived name address at was)
-      (λ now. let most : nat_le 2 (outlived_by outlived name) ≡ true = (and_parts (is_protected s.graph name) (nat_le 2 (outlived_by outlived name)) now).1 in grind (arith, nat_tests, most))
+      (λ now.
+      let most : nat_le 2 (outlived_by outlived name) ≡ true = (and_parts (is_protected s.graph name) (nat_le 2 (outlived_by outlived name)) now).1 in
+      grind (arith, nat_tests, most))
       (kept_here k))
       (λ n a differ e k. g.kept.outlived n a e k)
 

@@ -149,8 +149,10 @@ module _ (v : View) (s : State) (h : Holds v s) where
       by_guard : (free : Bool) → is_protected s.graph name ≡ not free →
           ◌≡◌ {A = ℕ × ℕ} (address, word) (value_word s.heap.place (Name name), value_word s.heap.place value) →
           (if free then Ok (address, word) else Err Protected) ≡ written_words s.heap.place (unguarded s.graph (name, value))
-      by_guard true same pair = ap Ok pair ∙ sym (ap (written_words s.heap.place) (cond-false (is_protected s.graph name) (Err Protected) (Ok (name, value)) same))
-      by_guard false same pair = sym (ap (written_words s.heap.place) (cond-true (is_protected s.graph name) (Err Protected) (Ok (name, value)) same))
+      by_guard true same pair =
+          ap Ok pair ∙ sym (ap (written_words s.heap.place) (cond-false (is_protected s.graph name) (Err Protected) (Ok (name, value)) same))
+      by_guard false same pair =
+          sym (ap (written_words s.heap.place) (cond-true (is_protected s.graph name) (Err Protected) (Ok (name, value)) same))
   raw_found object index input address word (Err why) free i e w guard = absurd (cc)
 
   pub raw_write_free : (object : Operand) (index : ℕ) (input : Input) (address word : ℕ) → IsWritableInput input →
