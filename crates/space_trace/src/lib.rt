@@ -17,9 +17,7 @@ mod tests;
 mod words;
 mod writer;
 
-// Files of commands name the numbers of `words` so.
 pub use laws::{readings_are_one, spellings_are_read};
 pub use reader::{Malformed, read_command};
-use words as numbers;
 pub use words::read_number;
 pub use writer::{write_command, write_event, write_malformed, write_reply};
