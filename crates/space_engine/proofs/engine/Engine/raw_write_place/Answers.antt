@@ -5,7 +5,7 @@ use Rattle.space_model.specs.Ages.{is_protected_guard}
 use Rattle.space_heap.specs.HeapView.{HeapView}
 use Rattle.space_heap.specs.Objects.{is_object, object_of}
 use Rattle.space_heap.proofs.ObjectLaws.{occupied_from_object}
-use Rattle.space_barrier.specs.Barrier.{is_protected_at}
+use Rattle.space_heap.specs.Generations.{is_protected_at}
 use Rattle.space_engine.proofs.ObjectCommands.{raw_write_free, raw_write_guarded, raw_write_lost}
 use Rattle.space_engine.proofs.engine.Engine.raw_write_place.Goals as goal
 
