@@ -1,5 +1,5 @@
 -- The commands that collect, `minor` and `gc`, from what was done to the heap and what was written.
-use Rattle.std.proofs.Common.{◌≡◌, ◌≢◌, ◌+◌, ⊥, ℕ, List, [], ◌∷◌, length, sym, ap, ◌∙◌, refl, subst, arith, Option}
+use Rattle.std.proofs.Common.{◌≡◌, ◌≢◌, ◌+◌, ℕ, List, [], ◌∷◌, length, sym, ap, ◌∙◌, refl, subst, arith, Option}
 use Rattle.space_model.specs.declared.command.Command.{Command}
 use Rattle.space_model.specs.declared.command.Command.TheVariants.{Minor, Gc}
 use Rattle.space_model.specs.declared.event.Event.{Event}
