@@ -1,6 +1,6 @@
 -- How the heap's marks of generations stand for what a state knows of names. All is said of names, never of the words of fields: a word that an
 -- object left names nothing, while its name goes on being a child.
-use Rattle.std.specs.Prelude.{◌≡◌, ◌⊎◌, ℕ, ◌≤◌, true, false, List, nat_eq, min, Option, Some, if◌then◌else◌}
+use Rattle.std.specs.Prelude.{◌≡◌, ◌⊎◌, ℕ, ◌≤◌, true, false, List, nat_eq, min, Some, if◌then◌else◌}
 use Rattle.std.specs.Ordering.{nat_cmp}
 use Rattle.std.specs.FinMap.{FinMap, get}
 use Rattle.std.specs.Set.{is_member}

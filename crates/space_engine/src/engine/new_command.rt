@@ -16,7 +16,9 @@ ghost use Rattle.space_engine.specs.Views.{View, with_root_dropped, with_root_wr
 use super::{Answer, Engine, silent};
 use space_heap::{Made, PageFault};
 use space_io::{Sink, WriteFault};
-use space_model::{Guard, Ident, Kind, Ledger, MOST_FIELDS, Refusal, Reply, Steps, Style, pool_for};
+use space_model::{
+    Guard, Ident, Kind, Ledger, MOST_FIELDS, Refusal, Reply, Steps, Style, pool_for,
+};
 use std::alloc::AllocError as NoMemory;
 
 impl Engine {

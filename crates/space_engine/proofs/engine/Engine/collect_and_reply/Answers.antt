@@ -1,7 +1,6 @@
 -- A command that collects from its collection, written whole or in part.
 use Rattle.space_engine.proofs.CollectionCommands.{collection_answered, collection_cut_off}
 use Rattle.space_engine.proofs.Outcomes.{on_err}
-use Rattle.space_engine.proofs.TurnLaws.{turn_verdict}
 use Rattle.space_engine.proofs.engine.Engine.collect_and_reply.Goals as goal
 
 pub returns-in_err-scans-clause-fault : goal.returns-in_err-scans-clause-fault
