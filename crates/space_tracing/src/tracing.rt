@@ -32,6 +32,7 @@ pub fn visit_roots(heap: &mut Heap, roots: &Roots)
 }
 
 // Visits the fields of an object in their order, in one step.
+#[inline(always)]
 fn visit_fields<L: Ledger>(heap: &mut Heap, address: u64, steps: &mut Steps<L>)
     requires object { is_occupied heap.old address ≡ true }
     requires ticks { steps.old + 1 < 2 ^ 64 }
@@ -46,6 +47,7 @@ fn visit_fields<L: Ledger>(heap: &mut Heap, address: u64, steps: &mut Steps<L>)
 
 // Visits the fields of an object of age 2 or more in their order, in one step: each unprotected child is kept, and the object
 // is remembered exactly where it has a protected child of age 0 or 1.
+#[inline(always)]
 fn visit_fields_of_aged<L: Ledger>(heap: &mut Heap, address: u64, steps: &mut Steps<L>)
     requires object { is_occupied heap.old address ≡ true }
     requires ticks { steps.old + 1 < 2 ^ 64 }
@@ -62,6 +64,7 @@ fn visit_fields_of_aged<L: Ledger>(heap: &mut Heap, address: u64, steps: &mut St
 
 /// Scans an object again that is black: its fields were visited in their order, in one step. Where it has age 2 or more it is
 /// remembered exactly where it has a protected child of age 0 or 1, and its unprotected children are kept (CRuby 3.3).
+#[inline(always)]
 pub fn scan_again<L: Ledger>(heap: &mut Heap, address: u64, steps: &mut Steps<L>)
     requires object { is_occupied heap.old address ≡ true }
     requires ticks { steps.old + 1 < 2 ^ 64 }

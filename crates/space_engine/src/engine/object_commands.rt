@@ -21,6 +21,7 @@ use space_model::{Guard, Input, Operand, Refusal, Reply};
 
 impl Engine {
     // The address of the object whose field a store writes, and the word that it gets.
+    #[inline(always)]
     fn write_place(
         &self,
         object: &Operand,

@@ -13,6 +13,7 @@ use space_model::{Input, Ledger, Operand, Refusal, Steps, Value, small_of, small
 
 impl Engine {
     /// The name of the object that stands at this address, if one does.
+    #[inline(always)]
     pub fn name_of(&self, word: u64) -> Option<u64>
         ensures { (s : State) → Holds self.now s → result ≡ named_by s.heap.place word }
     {
@@ -81,6 +82,7 @@ impl Engine {
     }
 
     /// The address of the object that the word names, where it has this field.
+    #[inline(always)]
     pub fn owner_of(&self, word: u64, index: u64) -> Result<u64, Refusal>
         ensures owner { result ≡ owner_of_field self.now.heap word index }
         ensures there { IfOk result (λ address. is_occupied self.now.heap address ≡ true) }
