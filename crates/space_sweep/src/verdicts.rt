@@ -146,7 +146,6 @@ mod tests {
     }
 
     // How many a verdict took, where nothing is grey and none is gone.
-    #[tactic(auto, using(crate::proofs::VerdictLaws::none_gone_walked))]
     fn take(heap: &mut Heap, kind: Kind) -> Option<u64> {
         if heap.minor_verdicts() >= 1 << 40 || heap.other_verdicts() >= 1 << 40 {
             return None;
