@@ -1,4 +1,5 @@
-// A collection: the marking and its verdict, the lines of the verdict, and the sweep of all pages that wait.
+// The pieces of a collection: `collect`, which is a marking and its verdict; the lines of the verdict; the sweep of all pages
+// that wait.
 ghost use Rattle.std.specs.Prelude.{◌≡◌, ◌≢◌, ◌<◌, ◌≤◌, ◌+◌, ◌^◌, [], length, map, OnOk, OnErr};
 ghost use Rattle.std.specs.Io.KnownBytes.{Appends};
 ghost use Rattle.space_io.specs.Causes.{HasCause};

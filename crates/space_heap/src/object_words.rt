@@ -35,6 +35,8 @@ fn write_object(words: &mut [u64], fields: u64, style: Style, name: u64)
     ensures { words.new ≡ object_words (length words.old) fields style name }
 {
     words.fill(0);
+
+    // Bit 0 tells an object from a free slot, bit 2 has the style, and the bits from 8 on have the number of fields.
     words[0] = 1 + 4 * style_number(style) + 256 * fields;
     words[1] = name;
 }

@@ -33,7 +33,7 @@ pub struct Pools {
     alloc: Global,
     limit: u32,
     pages: Vec<PoolPage>,
-    // For each pool, a number of pages: allocations pass over each page of the pool below it.
+    // For each pool the number of a page: allocations pass over each page of the pool below it.
     cursors: [u32; 5],
     spare: u32,
 }

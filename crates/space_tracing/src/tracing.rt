@@ -62,7 +62,7 @@ fn visit_fields_of_aged<L: Ledger>(heap: &mut Heap, address: u64, steps: &mut St
     heap.remember(address, young);
 }
 
-/// Scans an object again that is black: its fields were visited in their order, in one step. Where it has age 2 or more it is
+/// Scans an object that is black, for the first time or again: its fields were visited in their order, in one step. Where it has age 2 or more it is
 /// remembered exactly where it has a protected child of age 0 or 1, and its unprotected children are kept (CRuby 3.3).
 #[inline(always)]
 pub fn scan_again<L: Ledger>(heap: &mut Heap, address: u64, steps: &mut Steps<L>)

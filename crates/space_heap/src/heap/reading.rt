@@ -189,7 +189,8 @@ impl Heap {
         }
     }
 
-    /// The words of the object's fields, in one step. No other call but `field` reads them.
+    /// The words of the object's fields, in one step. Fields are read by this call, by `field`, and one after another by
+    /// `next_field` after `read_fields`.
     pub fn children<L: Ledger>(&self, address: u64, steps: &mut Steps<L>) -> &[u64]
         requires object { is_occupied self.now address ≡ true }
         requires ticks { steps.old + 1 < 2 ^ 64 }
