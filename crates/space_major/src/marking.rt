@@ -13,8 +13,9 @@ use space_tracing::{drain, visit_all, visit_roots};
 
 /// Marks what is reached from the roots and the stack, as a whole marking of CRuby 3.3 does: every
 /// word of the stack that names an object counts. Remembered and kept marks are found anew, by the scans
-/// of objects of age 2 or more. The answer is how many objects were scanned, each in one step. The order is this project's own: roots, then the stack from its bottom, then always the
-/// object that became grey last. It takes no memory.
+/// of objects of age 2 or more. The answer is how many objects were scanned, each in one step. The order
+/// is this project's own: roots, then the stack from its bottom, then always the object that became grey
+/// last. It takes no memory.
 pub fn whole<L: Ledger>(heap: &mut Heap, roots: &Roots, stack: &Stack, steps: &mut Steps<L>) -> u64
     requires { steps.old < 2 ^ 62 }
     ensures marked { (n : ℕ) → IsMarked heap.new n ↔ IsLive heap.old (root_words roots.now) stack.now n }
