@@ -1,18 +1,20 @@
--- Page after page is swept until none waits.
-use Rattle.std.proofs.Common.{◌≡◌, ℕ, zero, suc, ◌+◌, ◌≤◌, ◌∙◌, [], length, map, refl, sym, ap, subst, arith}
+-- Page after page is swept: what holds after so many sweeps, and after all.
+use Rattle.std.proofs.Common.{◌≡◌, ℕ, zero, suc, ◌+◌, ◌*◌, ◌<◌, ◌≤◌, ◌∙◌, [], length, map, refl, sym, ap, subst, arith}
 use Rattle.std.specs.Prelude.{count_by}
 use Rattle.std.specs.List.{range_with_len}
 use Rattle.std.proofs.lemmas.List.FromFn.{length-range_with_len}
 use Rattle.std.proofs.lemmas.List.Sums.{length-filter, count_by-le-length}
-use Rattle.space_model.specs.Layout.{most_pages}
-use Rattle.space_heap.specs.HeapView.{Counters, HeapView, is_unswept}
+use Rattle.space_model.specs.Layout.{most_pages, most_page_slots}
+use Rattle.space_heap.specs.HeapView.{HeapView, is_unswept}
 use Rattle.space_heap.specs.SoundHeap.{IsSoundHeap}
 use Rattle.space_heap.specs.Sweeping.{HasNoGone}
 use Rattle.space_sweep.specs.Sweeps.{SweepsFirst}
 use Rattle.space_collector.specs.GoneNames.{gone_names, name_at}
-use Rattle.space_collector.specs.PagesSwept.{SweepsPages, SweepsAll}
+use Rattle.space_collector.specs.PagesSwept.{SweepsPages, SweepsAll, LeavesRest}
+use Rattle.space_collector.specs.Quiescent.{IsQuiescent, most_slots}
 use Rattle.space_collector.proofs.GoneLists.{none_gone_below}
-use Rattle.space_collector.proofs.PageSweeps.{counters-first}
+use Rattle.space_collector.proofs.PageSweeps.{fewer_wait, freed-first, freed_most-first, gone-first, quiescent-first}
+use Rattle.space_collector.proofs.RestLaws.{leaves_rest_refl, leaves_rest_then, leaves_rest-first}
 use Rattle.space_collector.proofs.SoundSweeps.{sound-first}
 
 -- no more pages wait than there may be
@@ -33,29 +35,83 @@ sweeps_more (suc pages) v w z freed (now, mid, first, then) s =
     let n : suc pages + 1 ≡ suc (pages + 1) = omega arith in
     subst (λ k. SweepsPages k v z) (sym n) (now, mid, first, sweeps_more pages mid w z freed then s)
 
--- all pages that waited, where so many were swept and none waits
-pub sweeps_all : (pages : ℕ) (v w : HeapView) → SweepsPages pages v w → pages + length w.unswept ≡ length v.unswept → w.unswept ≡ [] → SweepsAll v w
-sweeps_all pages v w swept many none =
-    let left : length w.unswept ≡ 0 = ap length none in
-    let n : pages ≡ length v.unswept = omega arith in
-    subst (λ k. SweepsPages k v w) n swept
+-- what holds after so many sweeps
+pub record IsRun (pages : ℕ) (v w : HeapView) : Type 0 where
+  pub left : length w.unswept + pages ≡ length v.unswept
+  pub counted : w.counters.freed + length (gone_names w) ≡ v.counters.freed + length (gone_names v)
+  pub most : w.counters.freed ≤ v.counters.freed + most_page_slots * pages
+  pub rest : LeavesRest v w
+  pub sound : IsSoundHeap v → IsSoundHeap w
+  pub quiescent : IsQuiescent v → IsQuiescent w
+
+-- no sweep changes nothing
+no_run : (v : HeapView) → IsRun 0 v v
+no_run v = record {
+  left = omega arith;
+  counted = refl;
+  most = omega arith;
+  rest = leaves_rest_refl v;
+  sound = λ sound. sound;
+  quiescent = λ quiescent. quiescent;
+}
+
+-- one sweep, and then so many
+run_after : (pages : ℕ) (v mid w : HeapView) (freed : ℕ) → SweepsFirst v mid freed → IsSoundHeap v → IsRun pages mid w → IsRun (suc pages) v w
+run_after pages v mid w freed s sound then =
+    let fewer = fewer_wait v mid freed s sound in
+    let count = freed-first v mid freed s sound in
+    let few = freed_most-first v mid freed s sound in
+    let gone = gone-first v mid freed s in
+    record {
+      left = let left = then.left in omega arith;
+      counted = let counted = then.counted in omega arith;
+      most = let most = then.most in omega arith;
+      rest = leaves_rest_then v mid w (leaves_rest-first v mid freed s sound) then.rest;
+      sound = λ was. then.sound (sound-first v mid freed s was);
+      quiescent = λ was. then.quiescent (quiescent-first v mid freed s sound was);
+    }
+
+-- it holds where every heap that a page is swept of is sound
+pub run : (pages : ℕ) (v w : HeapView) → (0 < pages → IsSoundHeap v) → SweepsPages pages v w → IsRun pages v w
+run zero v w sound same = subst (λ (w : HeapView). IsRun 0 v w) (sym same) (no_run v)
+run (suc pages) v w sound (freed, mid, first, others) =
+    let began : IsSoundHeap v = sound (omega arith) in
+    run_after pages v mid w freed first began (run pages mid w (λ more. sound-first v mid freed first began) others)
+
+-- sweeps keep what holds of every heap
+pub sound_pages : (pages : ℕ) (v w : HeapView) → IsSoundHeap v → SweepsPages pages v w → IsSoundHeap w
+sound_pages pages v w sound swept = (run pages v w (λ more. sound) swept).sound sound
+
+-- and that what is left to do shows in the phase
+pub quiescent_pages : (pages : ℕ) (v w : HeapView) → IsSoundHeap v → IsQuiescent v → SweepsPages pages v w → IsQuiescent w
+quiescent_pages pages v w sound quiescent swept = (run pages v w (λ more. sound) swept).quiescent quiescent
+
+-- and leave the rest as it was
+pub leaves_rest_pages : (pages : ℕ) (v w : HeapView) → IsSoundHeap v → SweepsPages pages v w → LeavesRest v w
+leaves_rest_pages pages v w sound swept = (run pages v w (λ more. sound) swept).rest
+
+-- where the heap is sound after sweeps it was so before
+pub began_sound : (pages : ℕ) (v w : HeapView) → (0 < pages → IsSoundHeap v) → SweepsPages pages v w → IsSoundHeap w → IsSoundHeap v
+began_sound zero v w sound same now = subst IsSoundHeap same now
+began_sound (suc pages) v w sound swept now = sound (omega arith)
+
+-- all sweeps free no more slots than a heap has
+pub freed_most : (pages : ℕ) (v w : HeapView) → (0 < pages → IsSoundHeap v) → SweepsPages pages v w → w.counters.freed ≤ v.counters.freed + most_slots
+freed_most zero v w sound same = let kept = ap (λ (v : HeapView). v.counters.freed) same in omega arith
+freed_most (suc pages) v w sound swept =
+    let all = run (suc pages) v w sound swept in
+    let most = all.most in
+    let left = all.left in
+    let few = unswept_most v (sound (omega arith)) in
+    omega arith
 
 -- where none is gone there are no names
 pub no_names : (v : HeapView) → HasNoGone v → length (gone_names v) ≡ 0
 no_names v none = ap (λ xs. length (map (name_at v) xs)) (none_gone_below v none)
 
--- a part of the heap that no sweep of a page changes
-pub sweeps_keep : {X : Type 0} (f : HeapView → X) (pages : ℕ) (v w : HeapView) → ((v w : HeapView) (freed : ℕ) → SweepsFirst v w freed → f w ≡ f v) →
-    SweepsPages pages v w → f w ≡ f v
-sweeps_keep f zero v w each same = ap f same
-sweeps_keep f (suc pages) v w each (freed, mid, first, others) = sweeps_keep f pages mid w each others ∙ each v mid freed first
-
 -- no counter but that of the freed slots changes
 pub sweeps_counters : (pages : ℕ) (v w : HeapView) → IsSoundHeap v → SweepsPages pages v w → w.counters ≡ record v.counters { freed = w.counters.freed }
-sweeps_counters zero v w sound same = rw same refl
-sweeps_counters (suc pages) v w sound (freed, mid, first, others) =
-    sweeps_counters pages mid w (sound-first v mid freed first sound) others
-    ∙ ap (λ (c : Counters). record c { freed = w.counters.freed }) (counters-first v mid freed first sound)
+sweeps_counters pages v w sound swept = (leaves_rest_pages pages v w sound swept).counters
 
 -- where no page waited nothing changed
 pub sweeps_none : (v w : HeapView) → v.unswept ≡ [] → SweepsAll v w → w ≡ v

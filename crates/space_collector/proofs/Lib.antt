@@ -2,7 +2,9 @@ pub mod QuiescentLaws
 pub mod GoneLists
 pub mod PageSweeps
 pub mod SoundSweeps
+pub mod RestLaws
 pub mod AllSweeps
+pub mod NeededSweeps
 pub mod HeapVerdictLaws
 pub mod ToldLines
 mod KindMarkings

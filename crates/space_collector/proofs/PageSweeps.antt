@@ -1,5 +1,5 @@
 -- The heap after the first page that waits was swept.
-use Rattle.std.proofs.Common.{◌≡◌, ◌≢◌, ℕ, ◌*◌, ◌+◌, ◌<◌, ◌≤◌, Bool, true, false, not, ◌&&◌, cond, List, [], ◌∷◌, length, nat_eq, refl, sym, ap, ◌∙◌, arith, ⊎_elim, ◌⊎◌, inl, inr, None}
+use Rattle.std.proofs.Common.{◌≡◌, ◌≢◌, ℕ, ◌*◌, ◌+◌, ◌≤◌, Bool, true, false, not, ◌&&◌, cond, List, [], ◌∷◌, length, nat_eq, refl, sym, ap, ◌∙◌, arith, ⊎_elim, ◌⊎◌, inl, inr, None}
 use Rattle.std.specs.Prelude.{count_by}
 use Rattle.std.specs.List.{range_with_len, filter}
 use Rattle.std.proofs.Math.ListN.{length-map}
@@ -15,7 +15,7 @@ use Rattle.space_model.specs.Layout.{most_page_slots, page_bytes, page_of}
 use Rattle.space_model.proofs.VerdictLaws.{CountIs-unique}
 use Rattle.space_model.proofs.WholeLaws.{counted_also}
 use Rattle.space_heap.specs.Slots.{ObjectView}
-use Rattle.space_heap.specs.HeapView.{Counters, HeapView, page_at, pool_at, is_unswept}
+use Rattle.space_heap.specs.HeapView.{Counters, HeapView, page_at, pool_at}
 use Rattle.space_heap.specs.Objects.{is_occupied, is_object, object_of, is_moved, resolved, HasNoMoved}
 use Rattle.space_heap.specs.SoundHeap.{IsSoundHeap}
 use Rattle.space_heap.specs.Sweeping.{is_gone, has_gone, swept, IsGoneOn}
@@ -23,10 +23,9 @@ use Rattle.space_heap.proofs.FreedCounts.{freed_most}
 use Rattle.space_heap.proofs.FreeLaws.{is_moved-swept}
 use Rattle.space_heap.proofs.GoneCounts.{gone_on_page}
 use Rattle.space_heap.proofs.PhaseLaws.{is_occupied-in_phase, is_object-in_phase, object_of-in_phase, is_moved-in_phase, resolved-in_phase}
-use Rattle.space_heap.proofs.SweptLaws.{is_object-swept, is_occupied-swept_other, resolved-swept, pool_at-swept_other, limit-swept, cursor-swept, is_occupied-swept_same, object_of-swept, object_of-swept_other, is_gone-swept_same, is_gone-swept_other, count-swept, is_unswept-swept, grey-swept, counters-swept}
+use Rattle.space_heap.proofs.SweptLaws.{is_object-swept, is_occupied-swept_other, resolved-swept, pool_at-swept_other, limit-swept, cursor-swept, is_occupied-swept_same, object_of-swept, object_of-swept_other, is_gone-swept_same, is_gone-swept_other, count-swept, grey-swept, counters-swept}
 use Rattle.space_heap.proofs.SweptPages.{pool_at-swept_kept, pool_at-swept_spare, unswept-swept_first}
-use Rattle.space_sweep.specs.Sweeps.{IsNextUnswept, SweepsFirst, phase_left}
-use Rattle.space_sweep.proofs.FirstPages.{first_from, none_before}
+use Rattle.space_sweep.specs.Sweeps.{SweepsFirst, phase_left}
 use Rattle.space_sweep.proofs.GoneWaits.{gone_wait-first}
 use Rattle.space_collector.specs.GoneNames.{gone_below, gone_addresses, name_at, gone_names}
 use Rattle.space_collector.specs.Quiescent.{HasNoGrey, IsQuiescent}
@@ -238,18 +237,3 @@ module _ (v z : HeapView) (freed : ℕ) (s : SweepsFirst v z freed) where
   -- fewer pages wait
   pub fewer_wait : IsSoundHeap v → length v.unswept ≡ length z.unswept + 1
   fewer_wait sound = ap length s.first ∙ ap (λ others. length (page ∷ others)) (sym (unswept-first sound)) ∙ omega arith
-
-  -- and none up to the swept one does, where none waited below the page from which it was sought
-  pub none_up_to : (from k : ℕ) → IsSoundHeap v → ((other : ℕ) → other < from → is_unswept v other ≡ false) → IsNextUnswept v from k → (other : ℕ) →
-      other < k + 1 → is_unswept z other ≡ false
-  none_up_to from k sound below next other up_to =
-      let first = first_from v from k sound below next in
-      let pages : page ∷ s.others ≡ k ∷ first.0 = sym s.first ∙ first.1 in
-      let same : page ≡ k = cc in
-      of_z (λ (z : HeapView). is_unswept z other)
-      ∙ is_unswept-swept v page other
-      ∙ ap (λ page. is_unswept v other && not (nat_eq other page)) same
-      ∙ ⊎_elim
-      (λ here. grind (arith, nat_tests, here))
-      (λ differ. ap (λ b. b && not (nat_eq other k)) (none_before v k sound first other (omega (arith, differ, up_to))))
-      (cases_eq other k)

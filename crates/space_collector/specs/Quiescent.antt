@@ -1,4 +1,4 @@
--- What holds of a heap between commands, by its phase, and when a whole collection can begin.
+-- What holds of a heap between commands, by its phase, and when a marking and its verdict can begin.
 use Rattle.std.specs.Prelude.{◌≡◌, ◌≢◌, ℕ, ◌*◌, ◌^◌, ◌<◌, true, []}
 use Rattle.space_model.specs.declared.phase.Phase.TheVariants.{Idle, Marking, Sweeping, Moving, Fixing}
 use Rattle.space_model.specs.Layout.{most_pages, most_page_slots, page_of}
@@ -22,13 +22,12 @@ pub record IsQuiescent (heap : HeapView) : Type 0 where
   pub none_moved : heap.phase ≢ Moving → heap.phase ≢ Fixing → HasNoMoved heap
   pub none_grey : heap.phase ≢ Marking → HasNoGrey heap
 
--- nothing is under way, and each count of verdicts and of freed slots leaves room for one more whole collection
+-- nothing is under way, and each count of verdicts leaves room for one more
 pub record CanCollect (heap : HeapView) : Type 0 where
   pub quiescent : IsQuiescent heap
   pub idle : heap.phase ≡ Idle
   pub minor_verdicts : heap.counters.minor_verdicts < 2 ^ 62
   pub other_verdicts : heap.counters.other_verdicts < 2 ^ 62
-  pub freed : heap.counters.freed < 2 ^ 61
 
 -- the most slots of a heap
 abbrev pub most_slots : ℕ

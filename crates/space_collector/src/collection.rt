@@ -1,20 +1,16 @@
-// The pieces of a collection: `collect`, which is a marking and its verdict; the lines of the verdict; the sweep of all pages
-// that wait.
-ghost use Rattle.std.specs.Prelude.{◌≡◌, ◌≢◌, ◌<◌, ◌≤◌, ◌+◌, ◌^◌, [], length, map, OnOk, OnErr};
+// The pieces of a collection: `collect`, which is a marking and its verdict, and the lines of the verdict.
+ghost use Rattle.std.specs.Prelude.{◌≡◌, ◌<◌, ◌+◌, ◌^◌, length, map, OnOk, OnErr};
 ghost use Rattle.std.specs.Io.KnownBytes.{Appends};
 ghost use Rattle.space_io.specs.Causes.{HasCause};
 ghost use Rattle.space_io.specs.Sinks.{AppendsPrefix};
-ghost use Rattle.space_model.specs.declared.phase.Phase.TheVariants.{Idle, Sweeping};
 ghost use Rattle.space_model.specs.Outputs.{Told};
 ghost use Rattle.space_model.specs.Texts.{text_of};
 ghost use Rattle.space_model.specs.Verdicts.{verdict_events};
-ghost use Rattle.space_heap.specs.SoundHeap.{IsSoundHeap};
 ghost use Rattle.space_heap.specs.Sweeping.{HasNoGone};
 ghost use Rattle.space_roots.specs.WordRoots.{root_words};
 ghost use Rattle.space_collector.specs.GoneNames.{gone_names};
 ghost use Rattle.space_collector.specs.HeapVerdicts.{IsKindMarking, IsHeapVerdict};
-ghost use Rattle.space_collector.specs.PagesSwept.{SweepsAll};
-ghost use Rattle.space_collector.specs.Quiescent.{most_slots, CanCollect, IsQuiescent};
+ghost use Rattle.space_collector.specs.Quiescent.{CanCollect, IsQuiescent};
 
 use space_heap::Heap;
 use space_io::{Sink, WriteFault};
@@ -22,7 +18,7 @@ use space_major::whole;
 use space_minor::minor;
 use space_model::{Event, Kind, Ledger, Steps};
 use space_roots::{Roots, Stack};
-use space_sweep::{Walk, next_gone, next_unswept, sweep_first, verdict};
+use space_sweep::{Walk, next_gone, verdict};
 use space_trace::write_event;
 
 /// What a marking and its verdict did.
@@ -97,26 +93,4 @@ pub fn tell_gone<K: Sink>(
         write_event(&Event::Gone { name: object.name }, sink)?;
     }
     write_event(&Event::Verdict { kind, gone }, sink)
-}
-
-/// Sweeps each page that waits, in ascending order, and counts each freed slot; where none waits nothing changes. It takes
-/// no memory. After each sweep it goes on above the swept page, so that beside the sweeps it looks at each page three times
-/// at most. Sweeping page by page is CRuby 3.3's; the order is this project's own.
-pub fn sweep_all(heap: &mut Heap)
-    requires quiescent { IsQuiescent heap.old }
-    requires few { heap.old.counters.freed < 2 ^ 61 }
-    ensures swept { SweepsAll heap.old heap.new }
-    ensures none_waits { heap.new.unswept ≡ [] }
-    ensures freed { heap.new.counters.freed ≡ heap.old.counters.freed + length (gone_names heap.old) }
-    ensures most { heap.new.counters.freed ≤ heap.old.counters.freed + most_slots }
-    ensures idle { heap.old.phase ≡ Sweeping → heap.new.phase ≡ Idle }
-    ensures same { heap.old.phase ≢ Sweeping → heap.new ≡ heap.old }
-    ensures quiescent { IsQuiescent heap.new }
-    ensures sound { IsSoundHeap heap.new }
-{
-    let mut from = 0;
-    'pages: while let Some(page) = next_unswept(heap, from) {
-        sweep_first(heap, page);
-        from = page + 1;
-    }
 }

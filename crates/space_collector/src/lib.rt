@@ -1,7 +1,9 @@
-//! The pieces of a collection: a minor or a whole marking with its verdict, the lines that tell a verdict of any kind, and the
-//! sweep of the pages that wait.
+//! The pieces of a collection: a minor or a whole marking with its verdict, the lines that tell a verdict of any kind, and sweeps of
+//! the pages that wait.
 #![tactic(auto)]
 
 mod collection;
+mod sweeping;
 
-pub use collection::{Collected, collect, sweep_all, tell_gone};
+pub use collection::{Collected, collect, tell_gone};
+pub use sweeping::{sweep_all, sweep_pages, sweep_until_free};

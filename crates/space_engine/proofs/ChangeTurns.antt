@@ -1,8 +1,8 @@
--- A store and an unprotected object change no count, and leave a heap quiescent in which nothing is under way.
-use Rattle.std.proofs.Common.{◌≡◌, ◌≢◌, ◌&&◌, ℕ, true, refl, sym, ap, ◌∙◌, arith}
-use Rattle.space_model.specs.declared.phase.Phase.TheVariants.{Idle, Marking}
+-- A store and an unprotected object change no count, and leave a heap quiescent in which nothing but a sweep is under way.
+use Rattle.std.proofs.Common.{◌≡◌, ◌≢◌, ◌&&◌, ℕ, true, refl, sym, ◌∙◌, ⊎_elim}
+use Rattle.space_model.specs.declared.phase.Phase.TheVariants.{Idle, Marking, Sweeping}
 use Rattle.space_heap.specs.Slots.{ObjectView}
-use Rattle.space_heap.specs.HeapView.{Counters, HeapView}
+use Rattle.space_heap.specs.HeapView.{HeapView}
 use Rattle.space_heap.specs.Objects.{is_object, object_of, written}
 use Rattle.space_heap.specs.Sweeping.{is_gone}
 use Rattle.space_heap.proofs.FreeLaws.{is_moved-with_object}
@@ -12,24 +12,12 @@ use Rattle.space_barrier.specs.Barrier.{stored, unprotected}
 use Rattle.space_tracing.proofs.Same.{same_part}
 use Rattle.space_engine.specs.Turns.{IsAtRest, IsOneTurn}
 use Rattle.space_engine.proofs.BarredStores.{IsBarred, stored_is}
-use Rattle.space_engine.proofs.TurnLaws.{IsAlike, quiescent_alike}
+use Rattle.space_engine.proofs.TurnLaws.{IsAlike, quiescent_alike, rests_alike, work_uncounted}
 use Rattle.space_engine.proofs.UnprotectedObjects.{OneChanged, unprotected_object, unprotected_keeps, unprotected_is, part_stays}
 
--- where no count changed, and the heaps are alike while nothing is under way
+-- where no count changed, and the heaps are alike while nothing but a sweep is under way
 turn_resting : (v w : HeapView) → (IsAtRest v → IsAlike v w) → w.phase ≡ v.phase → w.counters ≡ v.counters → IsOneTurn v w
-turn_resting v w alike phase counters =
-    let born = ap (λ (c : Counters). c.born) counters in
-    let minors = ap (λ (c : Counters). c.minor_verdicts) counters in
-    let others = ap (λ (c : Counters). c.other_verdicts) counters in
-    let freed = ap (λ (c : Counters). c.freed) counters in
-    record {
-      born = omega arith;
-      minor_verdicts = omega arith;
-      other_verdicts = omega arith;
-      freed = omega arith;
-      quiescent = λ q rests. quiescent_alike v w (alike rests) q;
-      rests = λ rests. phase ∙ rests;
-    }
+turn_resting v w alike phase counters = work_uncounted 3 v w counters (λ q rests. quiescent_alike v w (alike rests) q) (rests_alike v w phase)
 
 -- a field of an object was written by the rules of the write barrier
 module _ (v : HeapView) (address index word : ℕ) (there : is_object v address ≡ true) where
@@ -46,10 +34,17 @@ module _ (v : HeapView) (address index word : ℕ) (there : is_object v address 
   phase_same = barrier.same.phase ∙ (rest-with_object v address _).phase
 
   not_marking : IsAtRest v → w.phase ≢ Marking
-  not_marking rests e = idle_marking (sym rests ∙ sym (rest-with_object v address _).phase ∙ e)
+  not_marking rests e =
+      ⊎_elim
+      (λ idle. idle_marking (sym idle ∙ sym (rest-with_object v address _).phase ∙ e))
+      (λ sweeping. sweeping_marking (sym sweeping ∙ sym (rest-with_object v address _).phase ∙ e))
+      rests
     where
       idle_marking : Idle ≢ Marking
       idle_marking e = cc
+
+      sweeping_marking : Sweeping ≢ Marking
+      sweeping_marking e = cc
 
   gone_same : (a : ℕ) → is_gone z a ≡ is_gone w a
   gone_same a = λ i. barrier.same.standing a i && same_part (λ (o : ObjectView). o.gone) w z a barrier.same i

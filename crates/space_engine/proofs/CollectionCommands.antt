@@ -5,9 +5,8 @@ use Rattle.space_model.specs.declared.command.Command.TheVariants.{Minor, Gc}
 use Rattle.space_model.specs.declared.event.Event.{Event}
 use Rattle.space_model.specs.declared.event.Kind.{Kind}
 use Rattle.space_model.specs.declared.event.Kind.TheVariants.{Minor as MinorKind, Major, Full}
-use Rattle.space_model.specs.declared.phase.Phase.TheVariants.{Idle}
 use Rattle.space_model.specs.declared.reply.Reply.TheVariants.{Scanned}
-use Rattle.space_model.specs.Collections.{CollectsAll}
+use Rattle.space_model.specs.Collections.{IsCollection}
 use Rattle.space_model.specs.Lawful.{Effects}
 use Rattle.space_model.specs.Outputs.{Replied}
 use Rattle.space_model.specs.State.{State}
@@ -16,15 +15,11 @@ use Rattle.space_roots.specs.WordRoots.{root_words}
 use Rattle.space_engine.specs.Answered.{IsLawfulAnswer, IsAnswered, IsCutOff}
 use Rattle.space_engine.specs.Counting.{no_counts}
 use Rattle.space_engine.specs.HeapCollections.{IsCollecting, IsHeapCollection, IsToldCollection, IsCutCollection}
-use Rattle.space_engine.specs.Stands.{Represents, Holds}
+use Rattle.space_engine.specs.Stands.{Represents}
 use Rattle.space_engine.specs.Ticks.{IsTicked}
 use Rattle.space_engine.specs.Turns.{CanAnswer}
 use Rattle.space_engine.specs.Views.{View, with_heap}
 use Rattle.space_engine.proofs.Collecting.{collects_to, collection_spelled, counted_names}
-
--- where nothing is under way in the heap, nothing is in the state
-pub state_idle : (v : View) (s : State) → Holds v s → v.heap.phase ≡ Idle → s.collector.phase ≡ Idle
-state_idle v s h idle = sym h.represents.heap.progress.at ∙ idle
 
 -- no command collects by a major verdict
 not_major : (command : Command) (kind : Kind) → IsCollecting command kind → kind ≢ Major
@@ -38,7 +33,7 @@ not_major command MinorKind k e = cc
 not_major command Full k e = cc
 
 collects_by : (s : State) (command : Command) (kind : Kind) → IsCollecting command kind → (events : List Event) (scans : ℕ) (t : State) →
-    CollectsAll s kind events scans t → Effects s command events (Replied (Scanned scans) ∷ []) t
+    IsCollection s kind events scans t → Effects s command events (Replied (Scanned scans) ∷ []) t
 collects_by s Minor MinorKind k events scans t c = record { reply = Scanned scans; answer_is = refl; is = c }
 collects_by s Minor Major k events scans t c = absurd k
 collects_by s Minor Full k events scans t c = absurd k
@@ -58,14 +53,13 @@ module _ (v new : View) (rest : new ≡ with_heap v new.heap) (able : CanAnswer 
       IsLawfulAnswer v new command (verdict_events kind names) (Scanned scans)
   lawful scans names c = record {
     answers = λ s h.
-        let to = collects_to v s h (state_idle v s h able.collect.idle) new.heap kind (not_major command kind by) scans names c in
+        let to = collects_to v s h able.collect.rests new.heap kind (not_major command kind by) scans names c in
         record {
           state = to.state;
           represents = subst (λ (w : View). Represents w to.state) (sym rest) to.holds.represents;
           effects = collects_by s command kind by (verdict_events kind names) scans to.state to.collects;
         };
-    spelled = λ s h.
-        collection_spelled v s h (state_idle v s h able.collect.idle) new.heap kind (not_major command kind by) scans names c able.born;
+    spelled = λ s h. collection_spelled v s h able.collect.rests new.heap kind (not_major command kind by) scans names c able.born;
   }
 
   pub collection_answered : (scans gone : ℕ) (before after : Option (List ℕ)) (ticks ticked : ℕ) →

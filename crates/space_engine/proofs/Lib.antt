@@ -20,6 +20,7 @@ mod GenerationsUnprotected
 mod GenerationsBorn
 mod NewObjects
 mod FreshPages
+mod SweptInNeed
 mod NewPlaces
 mod Openings
 mod Reaching
@@ -31,10 +32,11 @@ mod WholeVerdicts
 mod AfterVerdicts
 mod SweptPages
 mod Collecting
+mod SweepCommand
 mod TurnLaws
 mod ChangeTurns
+mod NewTurns
 mod ReservedRoots
-mod NewStages
 mod CollectionCounts
 mod CollectionCommands
 mod NewCommand
@@ -46,3 +48,4 @@ mod MinorVerdicts
 mod MinorScans
 mod GenerationVerdicts
 mod CollectionVerdicts
+mod StatCommand

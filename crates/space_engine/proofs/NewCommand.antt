@@ -1,5 +1,5 @@
 -- What `new` answers, and the states after it.
-use Rattle.std.proofs.Common.{◌≡◌, ◌≢◌, ℕ, ◌+◌, ◌<◌, ◌≤◌, ◌^◌, Bool, List, [], ◌∷◌, ◌++◌, length, map, refl, sym, ap, ◌∙◌, subst, arith, None, Option, inl, inr, if◌then◌else◌}
+use Rattle.std.proofs.Common.{◌≡◌, ◌≢◌, ℕ, ◌+◌, ◌<◌, ◌≤◌, ◌^◌, Bool, List, [], ◌∷◌, ◌++◌, length, map, refl, sym, ap, ◌∙◌, subst, arith, None, Option, inl, inr}
 use Rattle.space_model.specs.declared.command.Command.TheVariants.{New}
 use Rattle.space_model.specs.declared.event.Event.TheVariants.{Gone, Verdict}
 use Rattle.space_model.specs.declared.event.Kind.TheVariants.{Major, Full}
@@ -7,36 +7,47 @@ use Rattle.space_model.specs.declared.object.Guard.{Guard}
 use Rattle.space_model.specs.declared.object.Style.{Style}
 use Rattle.space_model.specs.declared.reply.Refusal.TheVariants.{TooLarge}
 use Rattle.space_model.specs.declared.reply.Reply.{Reply}
-use Rattle.space_model.specs.declared.reply.Reply.TheVariants.{Made, Full as FullReply, NoMemory, Done, Pushed, Read, Truth, Scanned, Refused}
+use Rattle.space_model.specs.declared.reply.Reply.TheVariants.{Made, Full as FullReply, NoMemory, Refused}
 use Rattle.space_model.specs.Graph.{Item}
 use Rattle.space_model.specs.Layout.{most_fields, pool_for}
 use Rattle.space_model.specs.Spelling.{IsSpelled}
 use Rattle.space_model.specs.State.{State}
 use Rattle.space_model.specs.Texts.{reply_pieces}
 use Rattle.space_model.specs.Verdicts.{verdict_events}
-use Rattle.space_model.proofs.WholeLaws.{collection_scans, leaves_collected}
+use Rattle.space_model.specs.declared.event.Event.{Event}
+use Rattle.space_model.specs.declared.phase.Phase.TheVariants.{Idle}
+use Rattle.space_model.specs.Completions.{CompletesIn, Completes}
+use Rattle.space_model.specs.Counts.{CountIs}
+use Rattle.space_model.specs.Reach.{Reach}
+use Rattle.space_model.proofs.Stages.{IsAtLimit, finds_at_once, finds_late, makes_none, place_leaves, lacks_page as lacks_page_after}
+use Rattle.space_model.proofs.WholeLaws.{collection_scans}
 use Rattle.space_heap.specs.Allocations.{LacksRoom, NeedsNewPage}
 use Rattle.space_heap.specs.HeapView.{HeapView}
 use Rattle.space_heap.specs.SoundHeap.{IsSoundHeap}
 use Rattle.space_roots.specs.WordRoots.{root_word, root_words}
-use Rattle.space_engine.specs.Allocations.{IsReserved, IsRootedAllocation, IsLastReply}
+use Rattle.space_engine.specs.Allocations.{IsReserved, IsReservedAndSwept, IsRootedAllocation, IsGivenUp, IsLastReply}
 use Rattle.space_engine.specs.Answered.{IsLawfulAnswer, IsAnswered, IsCutOff}
 use Rattle.space_engine.specs.Counting.{no_counts}
 use Rattle.space_engine.specs.Stands.{Represents, Holds}
 use Rattle.space_engine.specs.Steps.{AnswersWith}
 use Rattle.space_engine.specs.Ticks.{IsMarkingTicked, IsTicked}
-use Rattle.space_engine.specs.Turns.{CanAnswer}
-use Rattle.space_engine.specs.Views.{View, with_heap, with_root_dropped}
+use Rattle.space_engine.specs.Turns.{IsAtRest}
+use Rattle.space_engine.specs.Views.{View, with_heap}
 use Rattle.space_engine.specs.HeapCollections.{IsHeapCollection, IsToldCollection, IsCutCollection, IsOneVerdict}
-use Rattle.space_engine.proofs.CollectionCommands.{state_idle}
 use Rattle.space_engine.proofs.Collecting.{CollectsTo, collects_to, collection_spelled, counted_names}
-use Rattle.space_engine.proofs.NewPlaces.{IsFullState, made_from, full_state, needs_page}
-use Rattle.space_engine.proofs.NewStages.{finds_at_once, finds_late, finds_none}
+use Rattle.space_collector.specs.PagesSwept.{SweepsUntilFree}
+use Rattle.space_engine.proofs.NewPlaces.{made_from, full_state, needs_page}
+use Rattle.space_engine.proofs.NewTurns.{born_swept}
 use Rattle.space_engine.proofs.Reading.{root_absent}
-use Rattle.space_engine.proofs.ReservedRoots.{heap_reserved, allocated_reserved, dropped_reserved, collection_reserved}
+use Rattle.space_engine.proofs.ReservedRoots.{heap_reserved, reserved_after, allocated_reserved, dropped_reserved, collection_reserved}
+use Rattle.space_engine.proofs.SweptInNeed.{SweepsUntilFreeTo, until_free_holds, idle_in_vain, completes_in_vain}
 
 not_major : Full ≢ Major
 not_major e = cc
+
+-- a collection that completes what nothing is under way begins where it stands
+idle_first : (s t : State) (events : List Event) → s.collector.phase ≡ Idle → Completes s events t → t ≡ s
+idle_first s t events idle c = (subst (λ phase. CompletesIn phase s events t) idle c).1
 
 module _ (root : List ℕ) (fields : ℕ) (guard : Guard) (style : Style) where
   -- an object can't have so many fields
@@ -56,65 +67,84 @@ module _ (root : List ℕ) (fields : ℕ) (guard : Guard) (style : Style) where
     effects = record { reply = NoMemory; answer_is = refl; is = (few, inl (record { absent = root_absent v s h root none; silent = refl; unchanged = refl })) };
   }
 
-  -- there is none for a new page
-  pub lacks_page : (v : View) (s : State) → Holds v s → fields ≤ most_fields → IsSoundHeap v.heap → NeedsNewPage v.heap (pool_for fields) →
-      AnswersWith s v (New root fields guard style) [] NoMemory
-  lacks_page v s h few sound needs =
-      let n = needs_page v s (pool_for fields) h sound needs in
+  -- there is none for a new page, after pages were swept in vain
+  pub lacks_page : (v : View) (s : State) (z : HeapView) → Holds v s → fields ≤ most_fields → IsSoundHeap v.heap → IsSoundHeap z →
+      SweepsUntilFree v.heap z (pool_for fields) → NeedsNewPage z (pool_for fields) →
+      AnswersWith s (with_heap v z) (New root fields guard style) [] NoMemory
+  lacks_page v s z h few sound sound_after swept needs =
+      let to = until_free_holds v s z (pool_for fields) h sound sound_after swept in
+      let n = needs_page v s z (pool_for fields) to needs in
       record {
-        state = s;
-        represents = h.represents;
-        effects = record {
-          reply = NoMemory;
-          answer_is = refl;
-          is = (few, inr (record { passed = ([], [], s, refl, (n.0, refl, refl), (refl, refl)); needs = n.1 }));
-        };
+        state = to.state;
+        represents = to.holds.represents;
+        effects = record { reply = NoMemory; answer_is = refl; is = (few, inr (lacks_page_after s fields to.state n.0 n.1)) };
       }
 
-  -- an object was allocated at once
-  pub made_at_once : (v w : View) (s : State) → Holds v s → fields ≤ most_fields → IsSoundHeap v.heap → (name a : ℕ) →
+  -- an object was allocated at once, or after pages were swept
+  pub made_at_once : (v w : View) (s : State) → Holds v s → fields ≤ most_fields → (name a : ℕ) →
       IsRootedAllocation v w root fields guard style name a → AnswersWith s w (New root fields guard style) [] (Made name a)
-  made_at_once v w s h few sound name a allocated =
-      let m = made_from v w s h sound root fields guard style name a allocated in
+  made_at_once v w s h few name a allocated =
+      let m = made_from v w s h root fields guard style name a allocated in
+      let place = finds_at_once s (pool_for fields) m.ready a m.place in
       record {
         state = m.state;
         represents = m.represents;
         effects = record {
           reply = Made name a;
           answer_is = refl;
-          is = record { few = few; next = m.next; ready = s; place = finds_at_once s (pool_for fields) a m.place; made = m.made };
+          is = record {
+            few = few;
+            next = m.next ∙ ap (λ (graph : List Item). length graph + 1) (place_leaves s (pool_for fields) [] m.ready a place).graph;
+            ready = m.ready;
+            place = place;
+            made = m.made;
+          };
         };
       }
 
-  -- a whole collection came first: `v` is the view before a place was made for the root, `r` the one after it
-  module _ (v r : View) (is_new : Bool) (reserved : IsReserved v r root is_new) (few : fields ≤ most_fields) (lacks : LacksRoom r.heap (pool_for fields))
-      (sound : IsSoundHeap r.heap) (able : CanAnswer r.heap) where
-    same_heap : r.heap ≡ v.heap
-    same_heap = heap_reserved v r root is_new reserved
+  -- a whole collection came first: `v` is the view before a place was made for the root, `r` the one after it and after all pages were swept in vain
+  module _ (v r : View) (is_new : Bool) (reserved : IsReservedAndSwept v r root is_new (pool_for fields)) (few : fields ≤ most_fields)
+      (lacks : LacksRoom r.heap (pool_for fields)) (rests : IsAtRest r.heap) (born : r.heap.counters.born < 2 ^ 62) where
+    abbrev pool : ℕ
+    pool = pool_for fields
 
-    able_before : CanAnswer v.heap
-    able_before = subst CanAnswer same_heap able
+    -- the view with the heap after the sweeps
+    abbrev x : View
+    x = with_heap v r.heap
 
-    module _ (w : View) (z : HeapView) (sound_after : IsSoundHeap z) (scans : ℕ) (names : List ℕ)
+    late_reserved : IsReserved x r root is_new
+    late_reserved = reserved_after v r root is_new pool reserved
+
+    same_heap : reserved.reserved.heap ≡ v.heap
+    same_heap = heap_reserved v reserved.reserved root is_new reserved.reserves
+
+    module _ (w : View) (z : HeapView) (scans : ℕ) (names : List ℕ)
         (c : IsHeapCollection r.heap z Full (root_words r.roots) r.stack scans names) where
       module _ (s : State) (h : Holds v s) where
-        its : IsHeapCollection v.heap z Full (root_words v.roots) v.stack scans names
-        its = collection_reserved v s h r root is_new reserved z scans names c
+        swept : SweepsUntilFreeTo v s r.heap pool
+        swept = until_free_holds v s r.heap pool h (subst IsSoundHeap same_heap reserved.swept.was_sound) reserved.swept.sound
+            (subst (λ heap. SweepsUntilFree heap r.heap pool) same_heap reserved.swept.sweeps)
 
-        to : CollectsTo v s z Full scans names
-        to = collects_to v s h (state_idle v s h able_before.collect.idle) z Full not_major scans names its
+        -- the state after the sweeps
+        abbrev limited : State
+        limited = swept.state
 
-        full_before : IsFullState s (pool_for fields)
-        full_before = full_state v s (pool_for fields) h.represents (subst IsSoundHeap same_heap sound)
-            (subst (λ heap. LacksRoom heap (pool_for fields)) same_heap lacks)
+        limit : IsAtLimit s pool limited
+        limit = full_state v s r.heap pool swept lacks
+
+        its : IsHeapCollection x.heap z Full (root_words x.roots) x.stack scans names
+        its = collection_reserved x limited swept.holds r root is_new late_reserved z scans names c
+
+        to : CollectsTo x limited z Full scans names
+        to = collects_to x limited swept.holds rests z Full not_major scans names its
 
         -- an object was allocated after it
         late_made : (name a : ℕ) → IsRootedAllocation (with_heap r z) w root fields guard style name a →
             AnswersWith s w (New root fields guard style) (verdict_events Full names) (Made name a)
         late_made name a allocated =
-            let m = made_from (with_heap v z) w to.state to.holds sound_after root fields guard style name a
-            (allocated_reserved v r root is_new reserved z w fields guard style name a allocated) in
-            let graph : to.state.graph ≡ s.graph = (leaves_collected s to.state Full (verdict_events Full names) scans to.collects).graph in
+            let m = made_from (with_heap v z) w to.state to.holds root fields guard style name a
+            (allocated_reserved x r root is_new late_reserved z w fields guard style name a allocated) in
+            let place = finds_late s limited to.state pool (verdict_events Full names) scans limit to.collects m.ready a m.place in
             record {
               state = m.state;
               represents = m.represents;
@@ -123,30 +153,29 @@ module _ (root : List ℕ) (fields : ℕ) (guard : Guard) (style : Style) where
                 answer_is = refl;
                 is = record {
                   few = few;
-                  next = m.next ∙ ap (λ (graph : List Item). length graph + 1) graph;
-                  ready = to.state;
-                  place = finds_late s to.state (pool_for fields) (verdict_events Full names) scans full_before to.collects a m.place;
+                  next =
+                      m.next ∙ ap (λ (graph : List Item). length graph + 1) (place_leaves s pool (verdict_events Full names) m.ready a place).graph;
+                  ready = m.ready;
+                  place = place;
                   made = m.made;
                 };
               };
             }
 
         -- there was no room after it either
-        late_none : LacksRoom z (pool_for fields) → w ≡ (if is_new then with_root_dropped (with_heap r z) root else with_heap r z) →
+        late_none : LacksRoom w.heap pool → IsGivenUp (with_heap r z) w root is_new pool →
             AnswersWith s w (New root fields guard style) (verdict_events Full names) FullReply
-        late_none still becomes =
-            let full = full_state (with_heap v z) to.state (pool_for fields) to.holds.represents sound_after still in
+        late_none still given =
+            let end = until_free_holds (with_heap v z) to.state w.heap pool to.holds given.was_sound given.sound given.sweeps in
+            let full = full_state (with_heap v z) to.state w.heap pool end still in
             record {
-              state = to.state;
-              represents = subst (λ (w : View). Represents w to.state) (sym (becomes ∙ dropped_reserved v r root is_new reserved z)) to.holds.represents;
+              state = end.state;
+              represents = subst (λ (w : View). Represents w end.state) (sym (given.becomes ∙ dropped_reserved x r root is_new late_reserved w.heap))
+                  end.holds.represents;
               effects = record {
                 reply = FullReply;
                 answer_is = refl;
-                is = record {
-                  few = few;
-                  passed = finds_none s to.state (pool_for fields) (verdict_events Full names) scans full_before to.collects full;
-                  limit = full.limit;
-                };
+                is = makes_none s limited to.state pool (verdict_events Full names) scans limit to.collects end.state fields few refl full;
               };
             }
 
@@ -154,24 +183,20 @@ module _ (root : List ℕ) (fields : ℕ) (guard : Guard) (style : Style) where
             AnswersWith s w (New root fields guard style) (verdict_events Full names) reply
         late (Made name a) last = late_made name a last
         late FullReply last = late_none last.0 last.1
-        late NoMemory last = absurd last
-        late Done last = absurd last
-        late (Pushed word names) last = absurd last
-        late (Read value) last = absurd last
-        late (Truth told) last = absurd last
-        late (Scanned count) last = absurd last
-        late (Refused why) last = absurd last
+        late _ last = absurd last
 
         -- the ledger's count rose by the scans of the collection
         late_ticked : (ticks ticked : ℕ) → ticked ≡ ticks + scans → IsMarkingTicked s ticks ticked
         late_ticked ticks ticked rose =
-            let first = to.collects.collects in
+            let first = to.collects in
+            let idle = idle_in_vain x limited swept.holds rests limit.vain.none_waits in
             record {
-              idle = first.idle;
-              completion = first.completion;
-              completes = first.completes;
+              idle = limited;
+              completion = [];
+              completes = completes_in_vain s pool limited h.sound idle limit.vain;
               scans = scans;
-              scanned = collection_scans s to.collects.unswept (verdict_events Full names) scans first;
+              scanned = subst (λ idle. CountIs (Reach idle) scans) (idle_first limited first.idle first.completion idle first.completes)
+                  (collection_scans limited to.state (verdict_events Full names) scans first);
               ticked = rose;
             }
 
@@ -179,7 +204,7 @@ module _ (root : List ℕ) (fields : ℕ) (guard : Guard) (style : Style) where
           IsLawfulAnswer v w (New root fields guard style) (verdict_events Full names) reply
       lawful reply last = record {
         answers = λ s h. late s h reply last;
-        spelled = λ s h. collection_spelled v s h (state_idle v s h able_before.collect.idle) z Full not_major scans names (its s h) able_before.born;
+        spelled = λ s h. collection_spelled x (limited s h) (swept s h).holds rests z Full not_major scans names (its s h) born;
       }
 
     -- a verdict tells something
@@ -188,38 +213,37 @@ module _ (root : List ℕ) (fields : ℕ) (guard : Guard) (style : Style) where
     ticked_events s [] k reply ticks ticked t = t
     ticked_events s (name ∷ names) k reply ticks ticked t = t
 
-    pub answered_late : (w : View) (z : HeapView) → IsSoundHeap z → (scans gone : ℕ) (reply : Reply) (before after : Option (List ℕ)) (ticks ticked : ℕ) →
+    pub answered_late : (w : View) (z : HeapView) (scans gone : ℕ) (reply : Reply) (before after : Option (List ℕ)) (ticks ticked : ℕ) →
         IsToldCollection r.heap z Full (root_words r.roots) r.stack scans gone before after → ticked ≡ ticks + scans →
         IsLastReply (with_heap r z) w root is_new fields guard style reply → IsAnswered v w (New root fields guard style) reply gone before after ticks ticked
-    answered_late w z sound_after scans gone reply before after ticks ticked told rose last = record {
+    answered_late w z scans gone reply before after ticks ticked told rose last = record {
       events = verdict_events Full told.names;
-      lawful = lawful w z sound_after scans told.names told.collects reply last;
+      lawful = lawful w z scans told.names told.collects reply last;
       counted = counted_names Full told.names (length told.names) ∙ ap (λ n. record no_counts { gone = n }) (sym told.many);
       written = told.written;
       ticks_are = λ s h.
-          ticked_events s told.names (length told.names) reply ticks ticked (late_ticked w z sound_after scans told.names told.collects s h ticks ticked rose);
+          ticked_events s told.names (length told.names) reply ticks ticked (late_ticked w z scans told.names told.collects s h ticks ticked rose);
     }
 
     -- the reply can be written
     late_spelled : (w : View) (z : HeapView) (reply : Reply) → z.counters.born < 2 ^ 62 → IsLastReply (with_heap r z) w root is_new fields guard style reply →
         IsSpelled (reply_pieces reply)
-    late_spelled w z (Made name address) few last = (let is = last.allocation.named in omega arith, tt)
+    late_spelled w z (Made name address) few last = (
+      let is = last.allocation.named in
+          let same = born_swept z last.swept (pool_for fields) last.was_sound last.sweeps in
+          omega arith,
+      tt,
+    )
     late_spelled w z FullReply few last = tt
-    late_spelled w z NoMemory few last = absurd last
-    late_spelled w z Done few last = absurd last
-    late_spelled w z (Pushed word names) few last = absurd last
-    late_spelled w z (Read value) few last = absurd last
-    late_spelled w z (Truth told) few last = absurd last
-    late_spelled w z (Scanned count) few last = absurd last
-    late_spelled w z (Refused why) few last = absurd last
+    late_spelled w z _ few last = absurd last
 
-    pub cut_off_late : (w : View) (z : HeapView) → IsSoundHeap z → (reply : Reply) (before after : Option (List ℕ)) → IsOneVerdict r.heap z Full →
+    pub cut_off_late : (w : View) (z : HeapView) (reply : Reply) (before after : Option (List ℕ)) → IsOneVerdict r.heap z Full →
         IsCutCollection r.heap z Full (root_words r.roots) r.stack before after →
         IsLastReply (with_heap r z) w root is_new fields guard style reply → IsCutOff v w (New root fields guard style) before after
-    cut_off_late w z sound_after reply before after one cut last = record {
+    cut_off_late w z reply before after one cut last = record {
       events = verdict_events Full cut.names;
       reply = reply;
-      lawful = lawful w z sound_after cut.scans cut.names cut.collects reply last;
-      reply_spelled = late_spelled w z reply (let same = one.born in let few_before = able.born in omega arith) last;
+      lawful = lawful w z cut.scans cut.names cut.collects reply last;
+      reply_spelled = late_spelled w z reply (let same = one.born in omega (arith, same, born)) last;
       prefix = cut.prefix;
     }

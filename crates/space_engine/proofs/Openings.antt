@@ -1,5 +1,5 @@
 -- A space before the first command.
-use Rattle.std.proofs.Common.{◌≢◌, ℕ, lit≤, true≢false, refl, sym, ◌∙◌}
+use Rattle.std.proofs.Common.{◌≢◌, ℕ, lit≤, true≢false, refl, sym, ◌∙◌, inl}
 use Rattle.std.specs.Ordering.{nat_cmp}
 use Rattle.std.specs.FinMap.{get-empty}
 use Rattle.std.proofs.lemmas.Bool.{and_parts}
@@ -70,7 +70,7 @@ opening_within limit = record {
     none_moved = λ moving fixing. is_moved-empty limit;
     none_grey = λ phase. record { listed = refl; objects = λ a e. white_grey (sym (white_where_none (empty_heap limit) a (is_occupied-empty limit a)) ∙ e) };
   };
-  rests = refl;
+  rests = inl refl;
   born = lit≤ tt;
   minor_verdicts = lit≤ tt;
   other_verdicts = lit≤ tt;

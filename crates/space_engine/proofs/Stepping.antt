@@ -8,7 +8,7 @@ use Rattle.space_model.specs.declared.command.Command.{Command}
 use Rattle.space_model.specs.declared.command.Command.TheVariants.{New, Load, Minor, Gc}
 use Rattle.space_model.specs.declared.event.Event.{Event}
 use Rattle.space_model.specs.declared.reply.Reply.{Reply}
-use Rattle.space_model.specs.declared.reply.Reply.TheVariants.{Made, Full, NoMemory, Done, Pushed, Read, Truth, Scanned, Refused}
+use Rattle.space_model.specs.declared.reply.Reply.TheVariants.{Made, Full, NoMemory, Done, Pushed, Read, Truth, Scanned, SweepCount, StatLine, Refused}
 use Rattle.space_model.specs.Lawful.{Lawful}
 use Rattle.space_model.specs.Outputs.{Output, Told, Replied}
 use Rattle.space_model.specs.Given.{IsGiven}
@@ -71,6 +71,8 @@ counts_of_one (Pushed word names) = refl
 counts_of_one (Read value) = refl
 counts_of_one (Truth told) = refl
 counts_of_one (Scanned count) = refl
+counts_of_one (SweepCount freed left) = refl
+counts_of_one (StatLine stat) = refl
 counts_of_one (Refused why) = refl
 
 plus_none : (a : ℕ) → 0 + a ≡ a

@@ -1,32 +1,19 @@
--- How far a command changes a heap's counts, and that it leaves a quiescent heap so.
-use Rattle.std.proofs.Common.{◌≡◌, ◌≢◌, ℕ, ◌+◌, ◌≤◌, Bool, true, false, List, length, nat_eq, refl, sym, ap, ◌∙◌, subst, arith, ⊎_elim, if◌then◌else◌}
+-- How far pieces of work change a heap's counts, and that they leave a quiescent heap at rest so.
+use Rattle.std.proofs.Common.{◌≡◌, inl, inr, ℕ, ◌+◌, ◌*◌, ◌≤◌, nat_eq, refl, sym, ap, ◌∙◌, arith, ⊎_elim}
 use Rattle.std.specs.Set.{is_member}
-use Rattle.std.proofs.lemmas.Bool.{cases_eq}
-use Rattle.space_model.specs.declared.event.Kind.{Kind}
-use Rattle.space_model.specs.declared.event.Kind.TheVariants.{Minor, Major, Full as FullKind}
-use Rattle.space_model.specs.declared.object.Guard.{Guard}
-use Rattle.space_model.specs.declared.object.Style.{Style}
-use Rattle.space_model.specs.declared.reply.Reply.{Reply}
-use Rattle.space_model.specs.declared.reply.Reply.TheVariants.{Made, Full}
-use Rattle.space_model.specs.Layout.{page_of, pool_for}
-use Rattle.space_heap.specs.declared.colour.Colour.TheVariants.{White, Grey}
-use Rattle.space_heap.specs.Slots.{ObjectView, new_object}
+use Rattle.space_model.specs.Layout.{page_of}
+use Rattle.space_heap.specs.declared.colour.Colour.TheVariants.{Grey}
+use Rattle.space_heap.specs.Slots.{ObjectView}
 use Rattle.space_heap.specs.HeapView.{Counters, HeapView}
-use Rattle.space_heap.specs.Objects.{is_moved, placed, written}
-use Rattle.space_heap.specs.Allocations.{IsAllocation}
+use Rattle.space_heap.specs.Objects.{is_moved, written}
 use Rattle.space_heap.specs.Marking.{colour_of}
-use Rattle.space_heap.specs.NewPages.{IsLeastSpare}
-use Rattle.space_heap.specs.Sweeping.{is_gone, minors_after, others_after}
-use Rattle.space_heap.proofs.FreeLaws.{is_moved-with_object, is_moved-placed, is_moved-with_page}
-use Rattle.space_heap.proofs.GoneLaws.{is_gone-with_object, is_gone-placed, is_gone-with_page}
-use Rattle.space_heap.proofs.NewPageLaws.{object_of-with_page}
-use Rattle.space_heap.proofs.NewPageSlots.{rest-with_page}
-use Rattle.space_heap.proofs.ObjectLaws.{stays, rest-with_object, counters-placed, grey-placed, phase-placed, unswept-placed, object_of-placed_same, object_of-placed_other}
-use Rattle.space_collector.specs.Quiescent.{IsQuiescent}
-use Rattle.space_engine.specs.HeapCollections.{IsOneVerdict}
-use Rattle.space_engine.specs.Allocations.{IsLastReply}
-use Rattle.space_engine.specs.Turns.{IsAtRest, IsOneTurn}
-use Rattle.space_engine.specs.Views.{View, with_root_dropped}
+use Rattle.space_heap.specs.Sweeping.{is_gone}
+use Rattle.space_heap.proofs.FreeLaws.{is_moved-with_object}
+use Rattle.space_heap.proofs.GoneLaws.{is_gone-with_object}
+use Rattle.space_heap.proofs.ObjectLaws.{stays, rest-with_object}
+use Rattle.space_collector.specs.PagesSwept.{LeavesRest}
+use Rattle.space_collector.specs.Quiescent.{IsQuiescent, most_slots}
+use Rattle.space_engine.specs.Turns.{IsAtRest, IsWork, IsOneTurn}
 
 -- heaps that are at the same point, and in which the same is gone, moved and grey
 pub record IsAlike (v w : HeapView) : Type 0 where
@@ -49,9 +36,18 @@ quiescent_alike v w alike q = record {
       record { listed = alike.grey ∙ none.listed; objects = λ a e. none.objects a (alike.grey_was a e) };
 }
 
--- where at most one object more is counted
-turn_alike : (v w : HeapView) → IsAlike v w → w.counters ≡ v.counters → IsOneTurn v w
-turn_alike v w alike counters =
+-- a heap is at rest where its phase is that of one that is
+pub rests_alike : (v w : HeapView) → w.phase ≡ v.phase → IsAtRest v → IsAtRest w
+rests_alike v w same rests = ⊎_elim (λ idle. inl (same ∙ idle)) (λ sweeping. inr (same ∙ sweeping)) rests
+
+-- sweeps leave a heap at rest so
+rests_left : (v w : HeapView) → LeavesRest v w → IsAtRest v → IsAtRest w
+rests_left v w rest rests = ⊎_elim (λ same. rests_alike v w same rests) (λ idle. inl idle) rest.phase
+
+-- no count changed, and a quiescent heap at rest stays such
+pub work_uncounted : (k : ℕ) (v w : HeapView) → w.counters ≡ v.counters → (IsQuiescent v → IsAtRest v → IsQuiescent w) → (IsAtRest v → IsAtRest w) →
+    IsWork k v w
+work_uncounted k v w counters quiescent rests =
     let born = ap (λ (c : Counters). c.born) counters in
     let minors = ap (λ (c : Counters). c.minor_verdicts) counters in
     let others = ap (λ (c : Counters). c.other_verdicts) counters in
@@ -61,15 +57,54 @@ turn_alike v w alike counters =
       minor_verdicts = omega arith;
       other_verdicts = omega arith;
       freed = omega arith;
-      quiescent = λ q rests. quiescent_alike v w alike q;
-      rests = λ rests. alike.phase ∙ rests;
+      quiescent = quiescent;
+      rests = rests;
+    }
+
+-- heaps that are alike, where no count changed
+turn_alike : (k : ℕ) (v w : HeapView) → IsAlike v w → w.counters ≡ v.counters → IsWork k v w
+turn_alike k v w alike counters = work_uncounted k v w counters (λ q rests. quiescent_alike v w alike q) (rests_alike v w alike.phase)
+
+-- pages were swept, and no more slots freed than a heap has
+pub work_swept : (v w : HeapView) → LeavesRest v w → w.counters.freed ≤ v.counters.freed + most_slots → IsQuiescent w → IsWork 1 v w
+work_swept v w rest most quiescent =
+    let born = ap (λ (c : Counters). c.born) rest.counters in
+    let minors = ap (λ (c : Counters). c.minor_verdicts) rest.counters in
+    let others = ap (λ (c : Counters). c.other_verdicts) rest.counters in
+    record {
+      born = omega arith;
+      minor_verdicts = omega arith;
+      other_verdicts = omega arith;
+      freed = most;
+      quiescent = λ q rests. quiescent;
+      rests = rests_left v w rest;
+    }
+
+-- so many sweeps, and then so many more
+more_freed : (a b c j k most : ℕ) → b ≤ a + j * most → c ≤ b + k * most → c ≤ a + (j + k) * most
+more_freed a b c j k most first second = let all : (j + k) * most ≡ j * most + k * most = grind arith in omega (arith, all, first, second)
+
+-- one piece of work after another, where the first allocated nothing and did no verdict
+pub work_then : (j k : ℕ) (v u w : HeapView) → IsWork j v u → IsWork k u w → u.counters.born ≡ v.counters.born →
+    u.counters.minor_verdicts ≡ v.counters.minor_verdicts → u.counters.other_verdicts ≡ v.counters.other_verdicts → IsWork (j + k) v w
+work_then j k v u w first second born minors others =
+    let later_born = second.born in
+    let later_minors = second.minor_verdicts in
+    let later_others = second.other_verdicts in
+    record {
+      born = omega arith;
+      minor_verdicts = omega arith;
+      other_verdicts = omega arith;
+      freed = more_freed v.counters.freed u.counters.freed w.counters.freed j k most_slots first.freed second.freed;
+      quiescent = λ q rests. second.quiescent (first.quiescent q rests) (first.rests rests);
+      rests = λ rests. second.rests (first.rests rests);
     }
 
 -- a field of an object was written
 pub turn_written : (v : HeapView) (address index word : ℕ) → IsOneTurn v (written v address index word)
 turn_written v address index word =
     let others = rest-with_object v address _ in
-    turn_alike v (written v address index word) (record {
+    turn_alike 3 v (written v address index word) (record {
       phase = others.phase;
       unswept = others.unswept;
       grey = others.grey;
@@ -77,136 +112,3 @@ turn_written v address index word =
       moved = λ a. is_moved-with_object v address _ a;
       grey_was = λ a e. sym (stays (λ (o : ObjectView). o.colour) v address _ a refl) ∙ e;
     }) others.counters
-
--- an object was allocated
-
-module _ (v w : HeapView) (fields : ℕ) (guard : Guard) (style : Style) (name a : ℕ) (all : IsAllocation v w fields guard style name a) where
-  abbrev new : ObjectView
-  new = new_object name fields guard style
-
-  abbrev u : HeapView
-  u = all.prepared
-
-  prepared_alike : IsAlike v u × (u.counters ≡ v.counters)
-  prepared_alike = ⊎_elim
-      (λ same. subst (λ u. IsAlike v u × (u.counters ≡ v.counters)) (sym same)
-      (record { phase = refl; unswept = refl; grey = refl; gone = λ b. refl; moved = λ b. refl; grey_was = λ b e. e }, refl))
-      (λ (page, g).
-      let within : page ≤ length v.pages = ⊎_elim (λ (x : IsLeastSpare v page). let lt = x.spare.0 in omega arith) (λ (none, is, below). omega arith) g.next in
-      let others = rest-with_page v page (pool_for fields) in
-      subst (λ u. IsAlike v u × (u.counters ≡ v.counters)) (sym g.becomes) (
-        record {
-          phase = others.phase;
-          unswept = others.unswept;
-          grey = others.grey;
-          gone = is_gone-with_page v page (pool_for fields) within g.empty;
-          moved = is_moved-with_page v page (pool_for fields) within g.empty;
-          grey_was = λ b e. sym (ap (λ (o : ObjectView). o.colour) (object_of-with_page v page (pool_for fields) within g.empty b)) ∙ e;
-        },
-        others.counters,
-      ))
-      all.room
-
-  placed_alike : IsAlike u w
-  placed_alike = subst (IsAlike u) (sym all.becomes) (record {
-    phase = phase-placed u a new;
-    unswept = unswept-placed u a new;
-    grey = grey-placed u a new;
-    gone = λ b. is_gone-placed u (pool_for fields) a new b all.least.free refl;
-    moved = λ b. is_moved-placed u (pool_for fields) a new b all.least.free;
-    grey_was = λ b e. ⊎_elim
-        (λ same. absurd (white_grey
-        (sym (ap (λ (o : ObjectView). o.colour) (object_of-placed_same u (pool_for fields) a new all.least.free))
-        ∙ ap (λ b. colour_of (placed u a new) b) (sym same) ∙ e)))
-        (λ other. sym (ap (λ (o : ObjectView). o.colour) (object_of-placed_other u a new b other)) ∙ e)
-        (cases_eq b a);
-  })
-    where
-      white_grey : White ≢ Grey
-      white_grey e = cc
-
-  counters_allocated : w.counters ≡ record v.counters { born = v.counters.born + 1 }
-  counters_allocated =
-      ap (λ (w : HeapView). w.counters) all.becomes ∙ counters-placed u a new ∙ ap (λ (c : Counters). record c { born = c.born + 1 }) prepared_alike.1
-
-  quiescent_allocated : IsQuiescent v → IsQuiescent w
-  quiescent_allocated q = quiescent_alike u w placed_alike (quiescent_alike v u prepared_alike.0 q)
-
-  rests_allocated : IsAtRest v → IsAtRest w
-  rests_allocated rests = placed_alike.phase ∙ prepared_alike.0.phase ∙ rests
-
-  pub turn_allocated : IsOneTurn v w
-  turn_allocated =
-      let born = ap (λ (c : Counters). c.born) counters_allocated in
-      let minors = ap (λ (c : Counters). c.minor_verdicts) counters_allocated in
-      let others = ap (λ (c : Counters). c.other_verdicts) counters_allocated in
-      let freed = ap (λ (c : Counters). c.freed) counters_allocated in
-      record {
-        born = omega arith;
-        minor_verdicts = omega arith;
-        other_verdicts = omega arith;
-        freed = omega arith;
-        quiescent = λ q rests. quiescent_allocated q;
-        rests = rests_allocated;
-      }
-
-  -- and before that a verdict was done
-  turn_late : (before : HeapView) → IsOneVerdict before v FullKind → IsOneTurn before w
-  turn_late before one =
-      let born = ap (λ (c : Counters). c.born) counters_allocated in
-      let minors = ap (λ (c : Counters). c.minor_verdicts) counters_allocated in
-      let others = ap (λ (c : Counters). c.other_verdicts) counters_allocated in
-      let freed = ap (λ (c : Counters). c.freed) counters_allocated in
-      let was_born = one.born in
-      let was_minors = one.minor_verdicts in
-      let was_others = one.other_verdicts in
-      let was_freed = one.freed in
-      record {
-        born = omega arith;
-        minor_verdicts = omega arith;
-        other_verdicts = omega arith;
-        freed = omega arith;
-        quiescent = λ q rests. quiescent_allocated (one.quiescent q rests);
-        rests = λ rests. rests_allocated one.idle;
-      }
-
--- a verdict is counted once at most
-
-minors_few : (kind : Kind) (n : ℕ) → minors_after kind n ≤ n + 1
-minors_few Minor n = omega arith
-minors_few Major n = omega arith
-minors_few FullKind n = omega arith
-
-others_few : (kind : Kind) (n : ℕ) → others_after kind n ≤ n + 1
-others_few Minor n = omega arith
-others_few Major n = omega arith
-others_few FullKind n = omega arith
-
--- a verdict alone
-pub turn_verdict : (v w : HeapView) (kind : Kind) → IsOneVerdict v w kind → IsOneTurn v w
-turn_verdict v w kind one =
-    let born = one.born in
-    let minors = one.minor_verdicts in
-    let others = one.other_verdicts in
-    let few_minors = minors_few kind v.counters.minor_verdicts in
-    let few_others = others_few kind v.counters.other_verdicts in
-    record {
-      born = omega arith;
-      minor_verdicts = omega arith;
-      other_verdicts = omega arith;
-      freed = one.freed;
-      quiescent = one.quiescent;
-      rests = λ rests. one.idle;
-    }
-
--- a verdict, and then an allocation or none
-pub turn_last : (before : HeapView) (v w : View) (root : List ℕ) (is_new : Bool) (fields : ℕ) (guard : Guard) (style : Style) (reply : Reply) →
-    IsOneVerdict before v.heap FullKind → IsLastReply v w root is_new fields guard style reply → IsOneTurn before w.heap
-turn_last before v w root is_new fields guard style (Made name address) one last =
-    turn_late v.heap w.heap fields guard style name address last.allocation before one
-turn_last before v w root is_new fields guard style Full one last = subst (λ (w : View). IsOneTurn before w.heap) (sym last.1) (dropped is_new)
-  where
-    dropped : (is_new : Bool) → IsOneTurn before (if is_new then with_root_dropped v root else v).heap
-    dropped true = turn_verdict before v.heap FullKind one
-    dropped false = turn_verdict before v.heap FullKind one
-turn_last before v w root is_new fields guard style _ one last = absurd last

@@ -1,27 +1,40 @@
 -- What holds of a space's heap between commands, and how far one command changes its counts.
-use Rattle.std.specs.Prelude.{◌≡◌, ℕ, ◌+◌, ◌*◌, ◌^◌, ◌≤◌, ◌<◌}
-use Rattle.space_model.specs.declared.phase.Phase.TheVariants.{Idle}
+use Rattle.std.specs.Prelude.{◌≡◌, ◌⊎◌, ℕ, ◌+◌, ◌*◌, ◌^◌, ◌≤◌, ◌<◌}
+use Rattle.space_model.specs.declared.phase.Phase.TheVariants.{Idle, Sweeping}
 use Rattle.space_heap.specs.HeapView.{HeapView}
-use Rattle.space_collector.specs.Quiescent.{IsQuiescent, CanCollect, most_slots}
+use Rattle.space_collector.specs.Quiescent.{IsQuiescent, most_slots}
 
--- nothing is under way: no command leaves pages unswept yet, and none begins a marking or a compaction
+-- nothing is under way but a sweep: no command begins a marking or a compaction yet
 abbrev pub IsAtRest : HeapView → Type 0
-IsAtRest heap = heap.phase ≡ Idle
+IsAtRest heap = (heap.phase ≡ Idle) ⊎ (heap.phase ≡ Sweeping)
+
+-- what is under way can be completed, and a collection done after it
+pub record CanCompleteAndCollect (heap : HeapView) : Type 0 where
+  pub quiescent : IsQuiescent heap
+  pub rests : IsAtRest heap
+  pub minor_verdicts : heap.counters.minor_verdicts < 2 ^ 62
+  pub other_verdicts : heap.counters.other_verdicts < 2 ^ 62
+  pub freed : heap.counters.freed < 2 ^ 61
 
 -- one more command can be answered, whatever it is
 pub record CanAnswer (heap : HeapView) : Type 0 where
-  pub collect : CanCollect heap
+  pub collect : CanCompleteAndCollect heap
   pub born : heap.counters.born < 2 ^ 62
+  pub freed : heap.counters.freed < 2 ^ 60
 
--- one command was answered: it allocated one object at most, did one verdict of each kind at most, freed no more slots than a heap
--- has, and left a quiescent heap at rest such
-pub record IsOneTurn (old new : HeapView) : Type 0 where
+-- a piece of work allocated one object at most, did one verdict of each kind at most, swept each page so many times at most, and left a
+-- quiescent heap at rest such
+pub record IsWork (sweeps : ℕ) (old new : HeapView) : Type 0 where
   pub born : new.counters.born ≤ old.counters.born + 1
   pub minor_verdicts : new.counters.minor_verdicts ≤ old.counters.minor_verdicts + 1
   pub other_verdicts : new.counters.other_verdicts ≤ old.counters.other_verdicts + 1
-  pub freed : new.counters.freed ≤ old.counters.freed + most_slots
+  pub freed : new.counters.freed ≤ old.counters.freed + sweeps * most_slots
   pub quiescent : IsQuiescent old → IsAtRest old → IsQuiescent new
   pub rests : IsAtRest old → IsAtRest new
+
+-- one command was answered: `new` sweeps for a slot, completes and collects, and sweeps for a slot again
+abbrev pub IsOneTurn : HeapView → HeapView → Type 0
+IsOneTurn old new = IsWork 3 old new
 
 -- the heap after so many commands: it is quiescent and at rest, and no count is higher than they can have made it
 pub record IsWithinTurns (heap : HeapView) (turns : ℕ) : Type 0 where
@@ -30,4 +43,4 @@ pub record IsWithinTurns (heap : HeapView) (turns : ℕ) : Type 0 where
   pub born : heap.counters.born ≤ turns
   pub minor_verdicts : heap.counters.minor_verdicts ≤ turns
   pub other_verdicts : heap.counters.other_verdicts ≤ turns
-  pub freed : heap.counters.freed ≤ turns * most_slots
+  pub freed : heap.counters.freed ≤ turns * (3 * most_slots)

@@ -16,6 +16,7 @@ mod operand_words;
 mod replies;
 mod root_commands;
 mod stack_commands;
+mod sweep_commands;
 
 use space_heap::Heap;
 use space_io::{Sink, WriteFault};

@@ -10,11 +10,11 @@ use Rattle.space_heap.specs.Sweeping.{has_gone, swept}
 use Rattle.space_heap.proofs.starts.Starts.{few_slots}
 use Rattle.space_heap.proofs.SweptLaws.{counters-swept}
 
-count_most : {X : Type 0} (p : X → Bool) (xs : List X) → count_by p xs ≤ length xs
+pub count_most : {X : Type 0} (p : X → Bool) (xs : List X) → count_by p xs ≤ length xs
 count_most p [] = omega arith
 count_most p (x ∷ xs) = let c = sum_by-cons (λ x. cond (p x) 1 0) x xs in let m = count_most p xs in grind (arith, common_steps, c, m, cases_Bool (p x))
 
-slots_most : (v : HeapView) (page : ℕ) (own : Option ℕ) → pool_at v page ≡ own → IsSoundHeap v → length (page_at v page).slots ≤ 1638
+pub slots_most : (v : HeapView) (page : ℕ) (own : Option ℕ) → pool_at v page ≡ own → IsSoundHeap v → length (page_at v page).slots ≤ 1638
 slots_most v page None its sound = let none = sound.spare page its in omega arith
 slots_most v page (Some own) its sound = let long = sound.long page own its in let few = few_slots own (sound.known page own its) in omega arith
 

@@ -8,8 +8,10 @@ pub mod NewPages
 pub mod NewPageLaws
 pub mod NewPageSlots
 pub mod EmptyHeaps
+mod PageCounts
+mod CountedPages
+mod CountedSlots
 pub mod GoneCounts
-mod GonePages
 pub mod NumberLists
 pub mod MappedLaws
 pub mod MarkingLaws
@@ -26,5 +28,7 @@ pub mod PhaseLaws
 pub mod SlotAddresses
 pub mod FreedCounts
 pub mod SweptPages
+pub mod WaitingPages
 pub mod GoneLaws
 pub mod ObjectCounts
+pub mod VacantLaws

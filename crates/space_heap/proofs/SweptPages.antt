@@ -112,19 +112,24 @@ module _ (v : HeapView) (page : ℕ) where
   slots = (page_at v page).slots
 
   -- the slot of a page by its address
+  pub start_by_address : IsSoundHeap v → (pool slot : ℕ) → pool_at v page ≡ Some pool → slot < length slots → is_slot v (slot_address page pool slot) ≡ true
+  unfolding is_slot
+  start_by_address sound pool slot its within =
+      let a : ℕ = slot_address page pool slot in
+      let few : slot < page_slots pool = let l = sound.long page pool its in omega arith in
+      let s = address_start pool page slot a (sound.known page pool its) few refl in
+      ap (λ k. is_start (pool_at v k) (length (page_at v k).slots) a) s.1
+      ∙ ap (λ o. is_start o (length slots) a) its
+      ∙ start_from (Some pool) (length slots) a s.0 (subst (λ k. k < length slots) (sym s.2) within) (ap (λ k. slot_bytes pool * k) s.2 ∙ s.3)
+
   pub slot_by_address : IsSoundHeap v → (pool slot : ℕ) → pool_at v page ≡ Some pool → slot < length slots
       → slot_at v (slot_address page pool slot) ≡ get_or slots slot Free
-  unfolding is_slot
   slot_by_address sound pool slot its within =
       let a : ℕ = slot_address page pool slot in
       let few : slot < page_slots pool = let l = sound.long page pool its in omega arith in
       let s = address_start pool page slot a (sound.known page pool its) few refl in
       let own : pool_at v (page_of a) ≡ Some pool = ap (pool_at v) s.1 ∙ its in
-      let is : is_slot v a ≡ true =
-      ap (λ k. is_start (pool_at v k) (length (page_at v k).slots) a) s.1
-      ∙ ap (λ o. is_start o (length slots) a) its
-      ∙ start_from (Some pool) (length slots) a s.0 (subst (λ k. k < length slots) (sym s.2) within) (ap (λ k. slot_bytes pool * k) s.2 ∙ s.3) in
-      slot_at_some v a is
+      slot_at_some v a (start_by_address sound pool slot its within)
       ∙ ap (λ o. get_or (page_with v a).slots (slot_number o a) Free) own
       ∙ ap (λ k. get_or (page_with v a).slots k Free) s.2
       ∙ ap (λ k. get_or (page_at v k).slots slot Free) s.1

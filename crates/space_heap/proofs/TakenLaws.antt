@@ -8,7 +8,7 @@ use Rattle.space_heap.specs.FreeSlots.{is_pool, is_slot_in, is_free_at}
 use Rattle.space_heap.specs.SoundHeap.{IsSoundHeap}
 use Rattle.space_heap.proofs.MovedLaws.{resolved_unmoved}
 
-free_split : (s : SlotView) → is_free s ≡ (not (has_object s) && not (has_moved s))
+pub free_split : (s : SlotView) → is_free s ≡ (not (has_object s) && not (has_moved s))
 free_split Free = refl
 free_split (Moved to) = refl
 free_split (Object o) = refl

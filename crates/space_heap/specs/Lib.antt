@@ -10,6 +10,7 @@ pub mod Marking
 pub mod Generations
 pub mod SoundHeap
 pub mod Sweeping
+pub mod SlotCounts
 pub mod Walks
 pub mod Readings
 pub mod Inside

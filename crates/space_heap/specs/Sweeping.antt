@@ -46,6 +46,10 @@ settled v kind = record v {
   counters = record v.counters { minor_verdicts = minors_after kind v.counters.minor_verdicts; other_verdicts = others_after kind v.counters.other_verdicts };
 }
 
+-- the first of the pages that wait for a sweep
+abbrev pub IsFirstUnswept : HeapView → ℕ → Type 0
+IsFirstUnswept v page = (others : List ℕ) × (v.unswept ≡ page ∷ others)
+
 -- no object that stands is gone
 abbrev pub HasNoGone : HeapView → Type 0
 HasNoGone v = (a : ℕ) → is_occupied v a ≡ true → (object_of v a).gone ≡ false

@@ -2,3 +2,4 @@
 pub mod MarkPlanes
 pub mod RecolouredMarks
 pub mod SweptPlanes
+pub mod CountedSlots

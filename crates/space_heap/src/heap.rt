@@ -4,6 +4,7 @@ ghost use Rattle.space_heap.specs.HeapView.{empty_heap, pool_at};
 ghost use Rattle.space_heap.specs.SoundHeap.{IsSoundHeap};
 
 mod allocating;
+mod counting;
 mod generations;
 mod marking;
 mod reading;

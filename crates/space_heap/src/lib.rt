@@ -8,6 +8,7 @@ mod mark_stack;
 mod marks;
 mod object_words;
 mod slot_allocation;
+mod slot_notes;
 mod sweeps;
 
 pub use colour::Colour;

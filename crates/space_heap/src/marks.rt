@@ -350,6 +350,10 @@ impl Marks {
         requires within { s < length self.now.object }
         ensures { result ≡ is_minor_scan_in self.now s }
     {
+        // Few slots are remembered or kept, so most are passed by after these two marks.
+        if !self.remembered.get(s) && !self.kept.get(s) {
+            return false;
+        }
         let old = self.age_low.get(s) && self.age_high.get(s) && !self.guard.get(s);
         let black = self.marked.get(s) && self.black.get(s);
         self.is_present(s) && black && (old && self.remembered.get(s) || self.kept.get(s))

@@ -1,9 +1,9 @@
 // The planes and the pools at a verdict, and at the sweep of a page.
 ghost use Rattle.std.specs.Prelude.{◌≡◌, ◌<◌, ℕ, true, false, ◌||◌, length, slice_set, vec_capacity, is_some, count_by, IsTrue, IsFalse};
-ghost use Rattle.space_planes.specs.Planes.{bit, IsClearFrom};
+ghost use Rattle.space_planes.specs.Planes.{bit};
 ghost use Rattle.space_pools.specs.PoolsView.{pool_at, page_at, unswept_at, free_at, with_page, with_freed_page};
 ghost use Rattle.space_pools.specs.Sound.{IsSoundPools};
-ghost use Rattle.space_heap.specs.planes.MarkPlanes.{AreWide, marks_at, age_from};
+ghost use Rattle.space_heap.specs.planes.MarkPlanes.{AreWide, marks_at, age_from, is_present};
 ghost use Rattle.space_heap.specs.planes.SweptPlanes.{settled_age, IsSettled, swept_marks, waiting_page, HoldsPages, HasNoPooled, SweepsPage};
 ghost use Rattle.space_heap.specs.Sweeping.{has_gone};
 ghost use Rattle.space_heap.specs.Inside.{page_in, AreAllMarks};
@@ -11,6 +11,7 @@ ghost use Rattle.space_heap.specs.Inside.{page_in, AreAllMarks};
 use crate::marks::{Marks, marks_of, reset_page};
 use space_planes::Plane;
 use space_pools::Pools;
+use std::mem::swap;
 
 // Raises the age of each slot that is marked and protected by one, up to 3.
 fn raise_ages(low: &mut Plane, high: &mut Plane, marked: &Plane, guard: &Plane)
@@ -85,6 +86,7 @@ fn free_gone(pools: &mut Pools, marks: &Marks, page: u32, working: &mut Plane)
     requires wide { length marks.now.gone ≡ length (page_at pools.old page).slots }
     ensures page { pools.new ≡ with_freed_page pools.old page working.new }
     ensures bits { (s : ℕ) → bit working.new s ≡ (free_at pools.old page s || bit marks.now.gone s) }
+    ensures len { length working.new ≡ length marks.now.gone }
     ensures sound { IsSoundPools pools.old }
 {
     working.reset(marks.gone.len());
@@ -92,14 +94,14 @@ fn free_gone(pools: &mut Pools, marks: &Marks, page: u32, working: &mut Plane)
     pools.free_page(page, working);
 }
 
-// The gone objects stand no more.
+// The gone objects stand no more. What the working plane holds afterwards isn't told.
 fn clear_gone(marks: &mut Marks, working: &mut Plane)
-    requires { AreWide marks.old (length marks.old.object) }
+    requires wide { AreWide marks.old (length marks.old.object) }
+    requires len { length working.old ≡ length marks.old.object }
     ensures { marks.new ≡ swept_marks marks.old }
 {
-    working.reset(marks.object.len());
     marks.object.and_not_into(&marks.gone, working);
-    marks.object.copy_from(working);
+    swap(&mut marks.object, working);
     marks.gone.fill(false);
 }
 
@@ -107,20 +109,24 @@ fn clear_gone(marks: &mut Marks, working: &mut Plane)
 fn clear_gone_on(marks: &mut Vec<Marks>, page: u32, working: &mut Plane)
     requires there { page < length marks.old.items }
     requires wide { AreWide (marks_at marks.old.items page) (length (marks_at marks.old.items page).object) }
+    requires len { length working.old ≡ length (marks_at marks.old.items page).object }
     ensures items { marks.new.items ≡ slice_set marks.old.items page (swept_marks (marks_at marks.old.items page)) }
     ensures room { vec_capacity marks.new ≡ vec_capacity marks.old }
 {
     clear_gone(&mut marks[page as usize], working);
 }
 
-// Whether some slot of the page holds an object, or was left by one, where none of them is gone.
-fn has_used(marks: &Marks) -> bool
+// Whether each object of the page is gone and no slot of it was left by one, so that its sweep makes it spare.
+fn is_emptied(marks: &Marks) -> bool
     requires wide { AreWide marks.now (length marks.now.object) }
-    requires none_gone { IsClearFrom marks.now.gone 0 }
-    ensures some { IsTrue result → (s : ℕ) × ((bit marks.now.object s || bit marks.now.moved s) ≡ true) }
-    ensures none { IsFalse result → (s : ℕ) → (bit marks.now.object s || bit marks.now.moved s) ≡ false }
+    requires gone { (s : ℕ) → bit marks.now.gone s ≡ true → bit marks.now.object s ≡ true }
+    ensures empty { IsTrue result → (s : ℕ) → (is_present marks.now s || bit marks.now.moved s) ≡ false }
+    ensures used { IsFalse result → (s : ℕ) × ((is_present marks.now s || bit marks.now.moved s) ≡ true) }
 {
-    !marks.object.is_same(&marks.gone) || !marks.moved.is_same(&marks.gone)
+    if !marks.object.is_same(&marks.gone) {
+        return false;
+    }
+    marks.moved.first_set_from(0).is_none()
 }
 
 // Sweeps a page, and answers how many slots of gone objects became free.
@@ -134,12 +140,13 @@ pub fn sweep_one(pools: &mut Pools, marks: &mut Vec<Marks>, page: u32, working: 
     ensures room { vec_capacity marks.new ≡ vec_capacity marks.old }
 {
     let gone = marks_of(marks, page).gone.count();
-    free_gone(pools, marks_of(marks, page), page, working);
-    clear_gone_on(marks, page, working);
-    if has_used(marks_of(marks, page)) {
+    // A page that its sweep empties is made spare at once: its free slots need no links.
+    if is_emptied(marks_of(marks, page)) {
+        pools.release_page(page);
+        reset_page(marks, page, 0);
         return gone;
     }
-    pools.release_page(page);
-    reset_page(marks, page, 0);
+    free_gone(pools, marks_of(marks, page), page, working);
+    clear_gone_on(marks, page, working);
     gone
 }

@@ -6,11 +6,12 @@ use Rattle.space_model.specs.declared.value.Value.TheVariants.{Nil, Small, Name}
 use Rattle.space_model.specs.declared.event.Event.TheVariants.{Gone, Verdict}
 use Rattle.space_model.specs.declared.event.Kind.TheVariants.{Minor, Major, Full as FullKind}
 use Rattle.space_model.specs.declared.reply.Refusal.TheVariants.{TooLarge, NoRoot, NoWord, NotObject, NoField, Protected}
-use Rattle.space_model.specs.declared.reply.Reply.TheVariants.{Made, Full, NoMemory, Done, Pushed, Read, Truth, Scanned, Refused}
+use Rattle.space_model.specs.declared.reply.Reply.TheVariants.{Made, Full, NoMemory, Done, Pushed, Read, Truth, Scanned, SweepCount, StatLine, Refused}
+use Rattle.space_model.specs.declared.stat.Stat.{Stat}
 use Rattle.space_model.specs.Outputs.{Output, Told, Replied}
 use Rattle.space_model.specs.Lines.{lines_of}
 use Rattle.space_model.specs.Spelling.{text_of_pieces}
-use Rattle.space_model.specs.Texts.{output_pieces, text_of, AreSpelled}
+use Rattle.space_model.specs.Texts.{stat_pieces, output_pieces, text_of, AreSpelled}
 use Rattle.space_model.proofs.LineLemmas.{lines_of-cut}
 use Rattle.space_model.proofs.Cutting.{Token, Raw, Num, Hexa, cut, read, shape, are_whole, are_raw, say_no_lf, pieces-read, pieces-lf}
 
@@ -32,6 +33,23 @@ numbers (Num n ∷ ts) = n ∷ numbers ts
 numbers (Hexa n ∷ ts) = n ∷ numbers ts
 numbers (_ ∷ ts) = numbers ts
 
+-- the counts that are these numbers, in their order
+abbrev pub stat_of : (ℕ → ℕ) → Stat
+stat_of n = record {
+  count = n 0;
+  minor_gc_count = n 1;
+  major_gc_count = n 2;
+  heap_allocated_pages = n 3;
+  heap_live_slots = n 4;
+  heap_free_slots = n 5;
+  total_allocated_objects = n 6;
+  total_freed_objects = n 7;
+  old_objects = n 8;
+  remembered_wb_unprotected_objects = n 9;
+  compact_count = n 10;
+  total_moved_objects = n 11;
+}
+
 -- one of each form, with these numbers
 abbrev pub forms : (ℕ → ℕ) → List Output
 forms n =
@@ -40,7 +58,7 @@ forms n =
     ∷ Replied (Pushed (n 0) None) ∷ Replied (Pushed (n 0) (Some (n 1)))
     ∷ Replied (Read Nil) ∷ Replied (Read (Small (n 0))) ∷ Replied (Read (Name (n 0)))
     ∷ Replied (Truth true) ∷ Replied (Truth false)
-    ∷ Replied (Scanned (n 0))
+    ∷ Replied (Scanned (n 0)) ∷ Replied (SweepCount (n 0) (n 1)) ∷ Replied (StatLine (stat_of n))
     ∷ Replied (Refused TooLarge) ∷ Replied (Refused NoRoot) ∷ Replied (Refused NoWord) ∷ Replied (Refused NotObject) ∷ Replied (Refused NoField)
     ∷ Replied (Refused Protected) ∷ []
 
@@ -58,6 +76,7 @@ IsClear o = (are_whole (shape (output_pieces o)) ≡ true) × (are_raw (shape (o
 
 -- each form by itself; a clause for each type with cases within Reply
 clear : (o : Output) → IsClear o
+unfolding stat_pieces
 clear (Told (Verdict Minor gone)) = (refl, refl, refl, refl)
 clear (Replied (Pushed word None)) = (refl, refl, refl, refl)
 clear (Replied (Read Nil)) = (refl, refl, refl, refl)

@@ -1,5 +1,5 @@
 -- The corpses on a page, in ascending order of address: each sound state has such a list for each page, so a sweep goes on.
-use Rattle.std.proofs.Common.{◌≡◌, ℕ, zero, suc, true, List, [], ◌∷◌, ◌++◌, length, nat_eq, refl, sym, ap, ◌∙◌, Option, None, Some}
+use Rattle.std.proofs.Common.{◌≡◌, ℕ, zero, suc, ◌≤◌, true, List, [], ◌∷◌, ◌++◌, length, nat_eq, refl, sym, ap, ◌∙◌, arith, Option, None, Some}
 use mathlib.Core.List.{append_assoc}
 use Rattle.std.proofs.lemmas.List.{append-nil}
 use Rattle.std.specs.Prelude.{is_some, unwrap_or}
@@ -95,6 +95,17 @@ Sweeps-there (page ∷ others) s e h =
 -- a sound state has a sweep of all pages
 pub SweepAll-there : (s : State) → Sound s → SweepAll s (freed_pages s.heap.unswept s) (swept_pages s.heap.unswept s)
 SweepAll-there s h = Sweeps-there s.heap.unswept s refl h
+
+-- and one of fewer pages
+pub Sweeps-some : (count : ℕ) (pages : List ℕ) (s : State) → s.heap.unswept ≡ pages → count ≤ length pages → Sound s →
+    (freed : List ℕ) × (t : State) × Sweeps count s freed t
+Sweeps-some zero pages s e few h = ([], s, (refl, refl))
+Sweeps-some (suc count) [] s e few h = absurd (omega (arith, few))
+Sweeps-some (suc count) (page ∷ others) s e few h =
+    let now = Sweep1-there s page others e h in
+    let mid : State = noted (swept s page others (corpse_names s.heap.corpses page)) in
+    let (later, t, rest) = Sweeps-some count others mid refl (omega (arith, few)) (Sound-swept s mid (corpse_names s.heap.corpses page) now h) in
+    (corpse_names s.heap.corpses page ++ later, t, (corpse_names s.heap.corpses page, later, mid, refl, now, rest))
 
 -- one more sweep
 pub Sweeps-more : (pages : ℕ) (s m t : State) (before now : List ℕ) → Sweeps pages s before m → Sweep1 m now t → Sweeps (suc pages) s (before ++ now) t

@@ -15,7 +15,6 @@ use Rattle.space_model.specs.declared.object.Style.{Style}
 use Rattle.space_model.specs.declared.phase.Phase.TheVariants.{Idle}
 use Rattle.space_model.specs.declared.reply.Reply.{Reply}
 use Rattle.space_model.specs.declared.reply.Reply.TheVariants.{Made, NoMemory, Refused, Full as FullReply}
-use Rattle.space_model.specs.Collections.{CollectsAll}
 use Rattle.space_model.specs.Counts.{CountIs}
 use Rattle.space_model.specs.Layout.{page_bytes, slot_address, slot_bytes, page_slots, page_of, pool_for}
 use Rattle.space_model.specs.Idents.{IsIdent}
@@ -27,13 +26,16 @@ use Rattle.space_model.specs.Reach.{Reach}
 use Rattle.space_model.specs.Roots.{root_value}
 use Rattle.space_model.specs.Sound.{Sound}
 use Rattle.space_model.specs.State.{State, is_present}
+use Rattle.space_model.specs.Sweeps.{sweep_phase, Sweeps}
+use Rattle.space_model.proofs.CollectionsKept.{Sound-sweeps}
 use Rattle.space_model.proofs.Growing.{IsDistinct-cons}
-use Rattle.space_model.proofs.Leaving.{leaves_reach}
+use Rattle.space_model.proofs.Leaving.{leaves_reach, leaves_swept}
 use Rattle.space_model.proofs.PageLaws.{page_of-slot_address}
 use Rattle.space_model.proofs.ReachedLaws.{member-keys}
 use Rattle.space_model.proofs.SweepKept.{no_corpse}
-use Rattle.space_model.proofs.Stages.{passed_leaves, passed_all}
-use Rattle.space_model.proofs.WholeLaws.{Sound-collects_all, counted_also, collects_leaves, leaves_collected, leaves_completed, collects_idle, collects_none_waits}
+use Rattle.space_model.proofs.Stages.{in_need_sweeps, passed_leaves, IsSweptInVain, CollectedInVain, passed_all}
+use Rattle.space_model.proofs.SweptLaws.{Sweeps-place, Sweeps-phase}
+use Rattle.space_model.proofs.WholeLaws.{Sound-collection, counted_also, collection_phase, collection_leaves, leaves_collection, leaves_completed}
 
 -- slots up to a number, where each has a name of its own: the names at them are as many
 module _ (IsAt : ℕ → ℕ → Type 0) (one_slot : (i j n : ℕ) → IsAt i n → IsAt j n → i ≡ j) (one_name : (i m n : ℕ) → IsAt i m → IsAt i n → m ≡ n) where
@@ -84,7 +86,7 @@ standing_among place address (name ∷ names) = ⊎_elim
     (same_address (get place name) address)
 
 -- some name stands at an address, or none
-standing : (place : FinMap nat_cmp ℕ) (address : ℕ) → ((n : ℕ) × (get place n ≡ Some address)) ⊎ ((n : ℕ) → get place n ≢ Some address)
+pub standing : (place : FinMap nat_cmp ℕ) (address : ℕ) → ((n : ℕ) × (get place n ≡ Some address)) ⊎ ((n : ℕ) → get place n ≢ Some address)
 standing place address = ⊎_elim
     (λ f. inl f)
     (λ none. inr (λ n e. none n (member-keys place n ∙ ap is_some e) e))
@@ -158,36 +160,74 @@ module _ (t : State) (pool : ℕ) (h : Sound t) (none_waits : t.heap.unswept ≡
       has_pool None e = absurd (none_spare page (below, e))
       has_pool (Some q) e = ap is_some e
 
--- what is reached after a whole collection is what was reached after the completion before it
-vain_reach : (s t : State) (events : List Event) (scans : ℕ) (c : CollectsAll s Full events scans t) (n : ℕ) → Reach t n ↔ Reach c.collects.idle n
-vain_reach s t events scans c n =
-    let now = leaves_reach s events t (leaves_collected s t Full events scans c) n in
-    let then = leaves_reach s c.collects.completion c.collects.idle (leaves_completed s c.collects.idle c.collects.completion c.collects.completes) n in
-    ((λ r. then.1 (now.0 r)), (λ r. now.1 (then.0 r)))
+-- sweeps in vain
+module _ (s : State) (pool : ℕ) (t : State) (v : IsSweptInVain s pool t) where
+  vain_sweeps : (freed : List ℕ) × Sweeps v.pages s freed t
+  vain_sweeps = in_need_sweeps v.pages s pool t v.sweeps
+
+  vain_sound : Sound s → Sound t
+  vain_sound h = Sound-sweeps v.pages s t vain_sweeps.0 vain_sweeps.1 h
+
+  vain_reach : (n : ℕ) → Reach t n ↔ Reach s n
+  vain_reach n = leaves_reach s [] t (leaves_swept v.pages s t vain_sweeps.0 vain_sweeps.1) n
+
+  vain_present : (n : ℕ) → is_present t n ≡ is_present s n
+  vain_present n = ap (λ place. is_some (get place n)) (Sweeps-place v.pages s t vain_sweeps.0 vain_sweeps.1)
+
+  -- nothing is under way after them, where the phase was that of the pages that waited
+  vain_idle : s.collector.phase ≡ sweep_phase s.heap.unswept → t.collector.phase ≡ Idle
+  vain_idle e = Sweeps-phase v.pages s t vain_sweeps.0 vain_sweeps.1 e ∙ ap sweep_phase v.none_waits
+
+-- a whole collection in vain
+module _ (s t : State) (pool : ℕ) (events : List Event) (c : CollectedInVain s pool events t) where
+  limited_sound : Sound s → Sound c.limited
+  limited_sound h = vain_sound s pool c.limited c.at_limit.vain h
+
+  in_vain_sound : Sound s → Sound t
+  in_vain_sound h = vain_sound c.collected pool t c.vain (Sound-collection c.limited c.collected Full c.told c.scans c.collects (limited_sound h))
+
+  in_vain_idle : t.collector.phase ≡ Idle
+  in_vain_idle = vain_idle c.collected pool t c.vain (collection_phase c.limited c.collected Full c.told c.scans c.collects)
+
+  -- what is reached after it was reached after the completion that it began with, and before
+  idle_reach : (n : ℕ) → Reach c.collects.idle n ↔ Reach c.limited n
+  idle_reach n = leaves_reach c.limited c.collects.completion c.collects.idle
+      (leaves_completed c.limited c.collects.idle c.collects.completion c.collects.completes) n
+
+  after_reach : (n : ℕ) → Reach t n ↔ Reach c.limited n
+  after_reach n =
+      let last = vain_reach c.collected pool t c.vain n in
+      let now = leaves_reach c.limited c.told c.collected (leaves_collection c.limited c.collected Full c.told c.scans c.collects) n in
+      ((λ r. now.0 (last.0 r)), (λ r. last.1 (now.1 r)))
+
+  -- what is present after it was reached before it
+  after_present : Sound s → (n : ℕ) → (is_present t n ≡ true) ↔ Reach c.limited n
+  after_present h n =
+      let there = collection_leaves c.limited c.collected c.told c.scans c.collects (limited_sound h) n in
+      let same = vain_present c.collected pool t c.vain n in
+      let before = idle_reach n in
+      ((λ p. before.0 (there.0 (sym same ∙ p))), (λ r. same ∙ there.1 (before.1 r)))
 
 -- so the answer `full` tells the truth
 pub full_is_full : (s t : State) (fields : ℕ) (events : List Event) → MakesNone s fields events t → Sound s → FullAt t (pool_for fields)
 full_is_full s t fields events e h =
     let c = passed_all s (pool_for fields) events t e.passed in
-    let sound = Sound-collects_all s t Full c.told c.scans c.collects h in
-    let idle = collects_idle s t Full c.told c.scans c.collects in
-    let none_waits = collects_none_waits s t Full c.told c.scans c.collects in
+    let sound = in_vain_sound s t (pool_for fields) events c h in
+    let idle = in_vain_idle s t (pool_for fields) events c in
     record {
-      reached = λ n. let there = collects_leaves s t c.told c.scans c.collects h n in
-          let same = vain_reach s t c.told c.scans c.collects n in
+      reached = λ n. let there = after_present s t (pool_for fields) events c h n in
+          let same = after_reach s t (pool_for fields) events c n in
           ((λ p. same.1 (there.0 p)), (λ r. there.1 (same.0 r)));
       limit = e.limit;
-      used = page_used t (pool_for fields) sound none_waits idle c.none_free c.none_spare;
-      filled = page_filled t (pool_for fields) sound none_waits idle c.none_free;
+      used = page_used t (pool_for fields) sound c.vain.none_waits idle c.vain.none_free c.none_spare;
+      filled = page_filled t (pool_for fields) sound c.vain.none_waits idle c.vain.none_free;
     }
 
 -- and nothing is present then but what was reached before
 pub full_leaves : (s t : State) (fields : ℕ) (events : List Event) → MakesNone s fields events t → Sound s → (n : ℕ) → is_present t n ≡ true → Reach s n
 full_leaves s t fields events e h n p =
     let c = passed_all s (pool_for fields) events t e.passed in
-    let idle = (collects_leaves s t c.told c.scans c.collects h n).0 p in
-    (leaves_reach s c.collects.collects.completion c.collects.collects.idle
-    (leaves_completed s c.collects.collects.idle c.collects.collects.completion c.collects.collects.completes) n).0 idle
+    (vain_reach s (pool_for fields) c.limited c.at_limit.vain n).0 ((after_present s t (pool_for fields) events c h n).0 p)
 
 -- where no object is made, nothing of the graph, of the stack and of the roots is changed
 same_parts : (s t : State) → t.graph ≡ s.graph → t.roots ≡ s.roots → t.stack ≡ s.stack →

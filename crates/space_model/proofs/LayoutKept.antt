@@ -11,10 +11,10 @@ use Rattle.space_model.specs.declared.object.Style.{Style}
 use Rattle.space_model.specs.declared.value.Value.TheVariants.{Nil}
 use Rattle.space_model.specs.Graph.{Item}
 use Rattle.space_model.specs.Layout.{page_of, pool_for, slot_address, page_slots, slot_bytes}
-use Rattle.space_model.specs.NewCommand.{Stage, FreeAddress, FreshPage, Collection, Finds}
+use Rattle.space_model.specs.NewCommand.{Stage, FreeAddress, WaitingPages, FreshPage, Collection, Finds}
 use Rattle.space_model.specs.Pages.{pool_at, with_pool}
 use Rattle.space_model.specs.Pieces.{new_item}
-use Rattle.space_model.specs.Places.{pool_of, IsSlot, IsFreshPage}
+use Rattle.space_model.specs.Places.{pool_of, IsSlot, IsNewAt, IsFreshPage}
 use Rattle.space_model.specs.Sound.{AreSlots, SoundLayout}
 use Rattle.space_model.specs.State.{State}
 use Rattle.space_model.proofs.PageLaws.{pool_at-with_pool, length-with_pool, page_of-slot_address}
@@ -59,10 +59,24 @@ on_page s pool page address has below limited none is placed =
           let f : None ≡ Some (pool_of s.graph name) = sym none ∙ taken in cc;
     }
 
--- the address that a stage finds is fresh
-pub fresh_slot : (s : State) (fields address : ℕ) (stage : Stage) → SoundLayout s.graph s.heap.place s.heap.pages s.heap.limit →
-    Finds stage s (pool_for fields) address → IsFreshSlot s (pool_for fields) address
-fresh_slot s fields address FreeAddress h new =
+-- the first slot of a page that gets the pool
+abbrev pub IsFirstOfFresh : State → ℕ → ℕ → Type 0
+IsFirstOfFresh s pool address = (page : ℕ) × IsFreshPage s page × (address ≡ slot_address page pool 0)
+
+-- the least address that is free for the pool, or the first of a page that gets it
+abbrev pub IsFoundAt : State → ℕ → ℕ → Type 0
+IsFoundAt s pool address = IsNewAt s pool address ⊎ IsFirstOfFresh s pool address
+
+-- so is the address that a stage finds, in the state that it leaves
+pub found_at : (stage : Stage) (s : State) (pool : ℕ) (t : State) (address : ℕ) → Finds stage s pool t address → IsFoundAt t pool address
+found_at FreeAddress s pool t address (same, new) = inl new
+found_at WaitingPages s pool t address (pages, sweeps, new) = inl new
+found_at FreshPage s pool t address (same, page, fresh, is) = inr (page, fresh, is)
+found_at Collection s pool t address found = absurd found
+
+free_slot : (s : State) (fields address : ℕ) → SoundLayout s.graph s.heap.place s.heap.pages s.heap.limit → IsNewAt s (pool_for fields) address →
+    IsFreshSlot s (pool_for fields) address
+free_slot s fields address h new =
     let at = new.free.at in
     let on : page_of address ≡ at.page = ap page_of at.is ∙ page_of-slot_address at.page (pool_for fields) at.slot at.on_page in
     let here = within s.heap.pages at.page (pool_for fields) at.has_pool in
@@ -76,13 +90,20 @@ fresh_slot s fields address FreeAddress h new =
       is = at.is ∙ ap (λ page. slot_address page (pool_for fields) at.slot) (sym on);
       no_place = new.free.no_place;
     }
-fresh_slot s fields address FreshPage h (page, fresh, is) = ⊎_elim
+
+page_slot : (s : State) (fields address : ℕ) → SoundLayout s.graph s.heap.place s.heap.pages s.heap.limit → IsFirstOfFresh s (pool_for fields) address →
+    IsFreshSlot s (pool_for fields) address
+page_slot s fields address h (page, fresh, is) = ⊎_elim
     (λ (spare, least). let limited = h.limited in let below = spare.0 in
     on_page s (pool_for fields) page address (has_slot fields) (omega arith) (omega arith) spare.1 is h.placed)
     (λ (none, next, below). on_page s (pool_for fields) page address (has_slot fields) (omega arith) below
     (ap (pool_at s.heap.pages) next ∙ past s.heap.pages) is h.placed)
     fresh
-fresh_slot s fields address Collection h found = absurd found
+
+-- an address that was found is fresh
+pub fresh_slot : (s : State) (fields address : ℕ) → SoundLayout s.graph s.heap.place s.heap.pages s.heap.limit → IsFoundAt s (pool_for fields) address →
+    IsFreshSlot s (pool_for fields) address
+fresh_slot s fields address h found = ⊎_elim (λ new. free_slot s fields address h new) (λ first. page_slot s fields address h first) found
 
 -- a page that gets a pool has none before
 no_pool : (s : State) (page : ℕ) → IsFreshPage s page → pool_at s.heap.pages page ≡ None
@@ -100,19 +121,21 @@ none_on_fresh s map fields page address slots fresh is name e =
     ap (pool_at s.heap.pages) (sym on) ∙ held_pool s.graph s.heap.pages name address (slots.at name address e) in
     let f : None ≡ Some (pool_of s.graph name) = sym (no_pool s page fresh) ∙ has in cc
 
--- no corpse lies at the address that a stage finds
-pub fresh_corpse : (s : State) (fields address : ℕ) (stage : Stage) → AreSlots s.graph s.heap.pages s.heap.corpses → Finds stage s (pool_for fields) address →
+-- no corpse lies at an address that was found
+pub fresh_corpse : (s : State) (fields address : ℕ) → AreSlots s.graph s.heap.pages s.heap.corpses → IsFoundAt s (pool_for fields) address →
     (name : ℕ) → get s.heap.corpses name ≢ Some address
-fresh_corpse s fields address FreeAddress slots new name e = new.free.no_corpse name e
-fresh_corpse s fields address FreshPage slots (page, fresh, is) name e = none_on_fresh s s.heap.corpses fields page address slots fresh is name e
-fresh_corpse s fields address Collection slots found name e = absurd found
+fresh_corpse s fields address slots found name e = ⊎_elim
+    (λ new. new.free.no_corpse name e)
+    (λ (page, fresh, is). none_on_fresh s s.heap.corpses fields page address slots fresh is name e)
+    found
 
 -- and no object left it
-pub fresh_left : (s : State) (fields address : ℕ) (stage : Stage) → AreSlots s.graph s.heap.pages s.heap.left → Finds stage s (pool_for fields) address →
+pub fresh_left : (s : State) (fields address : ℕ) → AreSlots s.graph s.heap.pages s.heap.left → IsFoundAt s (pool_for fields) address →
     (name : ℕ) → get s.heap.left name ≢ Some address
-fresh_left s fields address FreeAddress slots new name e = new.free.not_left name e
-fresh_left s fields address FreshPage slots (page, fresh, is) name e = none_on_fresh s s.heap.left fields page address slots fresh is name e
-fresh_left s fields address Collection slots found name e = absurd found
+fresh_left s fields address slots found name e = ⊎_elim
+    (λ new. new.free.not_left name e)
+    (λ (page, fresh, is). none_on_fresh s s.heap.left fields page address slots fresh is name e)
+    found
 
 module _ (s : State) (root : List ℕ) (fields : ℕ) (guard : Guard) (style : Style) (address : ℕ)
     (h : SoundLayout s.graph s.heap.place s.heap.pages s.heap.limit) (f : IsFreshSlot s (pool_for fields) address) where

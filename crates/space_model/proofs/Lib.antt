@@ -36,6 +36,7 @@ pub mod MinorLaws
 pub mod Stages
 pub mod RepliedPieces
 pub mod FullLaws
+pub mod StatLaws
 pub mod PlacesAfter
 pub mod SoundKept
 pub mod WordsKept

@@ -8,9 +8,8 @@ use Rattle.std.proofs.lemmas.Bool.{and_parts, and_from, or_cases, or_left, or_ri
 use Rattle.std.proofs.lemmas.Bool.Decides.{nat_tests}
 use Rattle.space_model.specs.declared.event.Event.{Event}
 use Rattle.space_model.specs.declared.event.Kind.TheVariants.{Minor}
-use Rattle.space_model.specs.declared.phase.Phase.TheVariants.{Idle}
 use Rattle.space_model.specs.Ages.{is_protected, outlived_by, is_old_in, is_old}
-use Rattle.space_model.specs.Collections.{CollectsAll, AreMinorScans}
+use Rattle.space_model.specs.Collections.{IsCollection, AreMinorScans}
 use Rattle.space_model.specs.Completions.{Completes}
 use Rattle.space_model.specs.Graph.{IsChild}
 use Rattle.space_model.specs.Maps.{IsRising}
@@ -26,7 +25,7 @@ use Rattle.space_model.proofs.PassingNames.{passing_names, IsRising-passing_name
 use Rattle.space_model.proofs.ReachedLaws.{member-keys, member-start_names}
 use Rattle.space_model.proofs.Reaching.{IsReached-start, IsReached-closed, IsReached-mono}
 use Rattle.space_model.proofs.VerdictLaws.{minor_verdict_marked}
-use Rattle.space_model.proofs.WholeLaws.{Sound-completed, completed_idle, collected_state, collects_after}
+use Rattle.space_model.proofs.WholeLaws.{Sound-completed, collected_state, collects_after}
 
 old_present : (s : State) (n : ℕ) → is_old s n ≡ true → is_present s n ≡ true
 unfolding is_old_in
@@ -149,10 +148,8 @@ module _ (s : State) where
 
 -- so where what is under way can be completed there is a minor collection
 pub minor_there : (s idle : State) (completion : List Event) → Completes s completion idle → Sound s →
-    CollectsAll s Minor (completion ++ verdict_events Minor (minor_taken idle)) (length (young_names idle)) (collected_state idle Minor (minor_taken idle))
+    IsCollection s Minor (completion ++ verdict_events Minor (minor_taken idle)) (length (young_names idle)) (collected_state idle Minor (minor_taken idle))
 minor_there s idle completion completes h =
     let sound : Sound idle = Sound-completed s idle completion completes h in
-    let rests : idle.collector.phase ≡ Idle = completed_idle s idle completion completes h in
     let verdict = minor_verdict_marked idle (minor_taken idle) (minor_verdict idle sound) in
-    collects_after idle Minor (minor_taken idle) sound (λ e. cc) (λ e. cc) verdict s completion (length (young_names idle)) completes
-    (minor_scans idle sound)
+    collects_after idle Minor (minor_taken idle) verdict s completion (length (young_names idle)) completes (minor_scans idle sound)

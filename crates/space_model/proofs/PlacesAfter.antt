@@ -27,13 +27,13 @@ use Rattle.space_model.specs.Reach.{IsStart, Reach}
 use Rattle.space_model.specs.Sound.{Sound}
 use Rattle.space_model.specs.State.{State, Heap, is_present}
 use Rattle.space_model.specs.ToldInOrder.{AreToldInOrder}
-use Rattle.space_model.proofs.Leaving.{Leaves}
+use Rattle.space_model.proofs.Leaving.{Leaves, leaves_swept}
 use Rattle.space_model.proofs.MapLaws.{get-insert_name, get-without, some_get}
 use Rattle.space_model.proofs.Reaching.{IsReached-least}
-use Rattle.space_model.proofs.RepliedPieces.{IsPiece, Nothing, Root, Dropped, Stack, Field, Guard as GuardPiece, replied_piece}
-use Rattle.space_model.proofs.Stages.{passed_leaves}
+use Rattle.space_model.proofs.RepliedPieces.{IsPiece, Nothing, Root, Dropped, Stack, Field, Guard as GuardPiece, Swept, replied_piece}
+use Rattle.space_model.proofs.Stages.{passed_leaves, place_leaves}
 use Rattle.space_model.proofs.ToldNames.{gone_among, gone_outputs, AreToldInOrder-append}
-use Rattle.space_model.proofs.WholeLaws.{leaves_collected}
+use Rattle.space_model.proofs.WholeLaws.{leaves_collection}
 
 pub reached_present : (s : State) → Sound s → (n : ℕ) → Reach s n → is_present s n ≡ true
 reached_present s h = IsReached-least (IsChild s.graph) (IsStart s) (λ n. is_present s n ≡ true)
@@ -86,13 +86,15 @@ same_heap : (s t : State) → t ≡ s → SameHeap s t
 same_heap s t e = ap (λ (u : State). u.heap) e
 
 -- so it is after a piece of work of a command without events
-piece_heap : (given : Type 0) (s t : State) → IsPiece given s t → SameHeap s t
-piece_heap given s t (Nothing same) = same_heap s t same
-piece_heap given s t (Root root value ident valid after) = ap (λ (u : State). u.heap) after
-piece_heap given s t (Dropped root after) = ap (λ (u : State). u.heap) after
-piece_heap given s t (Stack words after) = ap (λ (u : State). u.heap) after
-piece_heap given s t (Field name index value object valid after) = ap (λ (u : State). u.heap) after
-piece_heap given s t (GuardPiece name object after) = ap (λ (u : State). u.heap) after
+piece_after : (given : Type 0) (s t : State) (events : List Event) → events ≡ [] → IsPiece given s t → PlacesAfter s events t
+piece_after given s t events none (Nothing same) = same_after s t events none (same_heap s t same)
+piece_after given s t events none (Root root value ident valid after) = same_after s t events none (ap (λ (u : State). u.heap) after)
+piece_after given s t events none (Dropped root after) = same_after s t events none (ap (λ (u : State). u.heap) after)
+piece_after given s t events none (Stack words after) = same_after s t events none (ap (λ (u : State). u.heap) after)
+piece_after given s t events none (Field name index value object valid after) = same_after s t events none (ap (λ (u : State). u.heap) after)
+piece_after given s t events none (GuardPiece name object after) = same_after s t events none (ap (λ (u : State). u.heap) after)
+piece_after given s t events none (Swept pages freed sweeps) =
+    worked s t events (subst (λ events. Leaves s events t) (sym none) (leaves_swept pages s t freed sweeps))
 
 -- what is present was allocated
 present_old : (s : State) → Sound s → (n : ℕ) → is_present s n ≡ true → n ≤ length s.graph
@@ -120,7 +122,7 @@ made_after s ready t root fields guard style address events after e = record {
 new_after : (s t : State) (root : List ℕ) (fields : ℕ) (guard : Guard) (style : Style) (events : List Event) (reply : Reply) →
     AnswersNew s root fields guard style events reply t → PlacesAfter s events t
 new_after s t root fields guard style events (Made name address) e =
-    made_after s e.ready t root fields guard style address events (passed_leaves e.place.before s (pool_for fields) events e.ready e.place.passed) e.made
+    made_after s e.ready t root fields guard style address events (place_leaves s (pool_for fields) events e.ready address e.place) e.made
 new_after s t root fields guard style events Full e = worked s t events (passed_leaves all_stages s (pool_for fields) events t e.passed)
 new_after s t root fields guard style events NoMemory e = ⊎_elim
     (λ lacks. same_after s t events lacks.silent (same_heap s t lacks.unchanged))
@@ -130,12 +132,12 @@ new_after s t root fields guard style events (Refused why) e = same_after s t ev
 new_after s t root fields guard style events _ e = absurd e
 
 collects_after : (s t : State) (kind : Kind) (events : List Event) (reply : Reply) → Collects s kind events reply t → PlacesAfter s events t
-collects_after s t kind events (Scanned scans) e = worked s t events (leaves_collected s t kind events scans e)
+collects_after s t kind events (Scanned scans) e = worked s t events (leaves_collection s t kind events scans e)
 collects_after s t kind events _ e = absurd e
 
--- a command without events leaves the heap as it was
-replies_heap : (s t : State) (command : Command) (reply : Reply) → Replies s command reply t → SameHeap s t
-replies_heap s t command reply e = piece_heap (IsGiven command) s t (replied_piece s t command reply e)
+-- a command without events takes nothing
+replies_after : (s t : State) (command : Command) (events : List Event) (reply : Reply) → events ≡ [] → Replies s command reply t → PlacesAfter s events t
+replies_after s t command events reply none e = piece_after (IsGiven command) s t events none (replied_piece s t command reply e)
 
 -- what a command does to places, and its answer, which tells no name to be gone
 record EffectsAfter (s : State) (events : List Event) (answer : List Output) (t : State) : Type 0 where
@@ -150,7 +152,7 @@ effects_after s t (New root fields guard style) events answer e =
 effects_after s t Minor events answer e = record { after = collects_after s t MinorKind events e.reply e.is; reply = e.reply; answer_is = e.answer_is }
 effects_after s t Gc events answer e = record { after = collects_after s t FullKind events e.reply e.is; reply = e.reply; answer_is = e.answer_is }
 effects_after s t command events answer e =
-    record { after = same_after s t events e.0 (replies_heap s t command e.1.reply e.1.is); reply = e.1.reply; answer_is = e.1.answer_is }
+    record { after = replies_after s t command events e.1.reply e.0 e.1.is; reply = e.1.reply; answer_is = e.1.answer_is }
 
 -- who is gone stays gone
 pub gone_stay : (s t : State) (command : Command) (outputs : List Output) → Lawful s command outputs t → (n : ℕ) → n ≤ length s.graph →

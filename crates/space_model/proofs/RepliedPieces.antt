@@ -1,13 +1,13 @@
 -- What a command without events does to a state: nothing, or one piece of work.
-use Rattle.std.proofs.Common.{◌≡◌, ℕ, Bool, true, false, if◌then◌else◌, List, [], ◌∷◌, ◌++◌, refl, ⊎_elim, Option, None, Some, Result, Ok, Err}
+use Rattle.std.proofs.Common.{◌≡◌, ℕ, Bool, true, false, if◌then◌else◌, List, [], ◌∷◌, ◌++◌, length, min, refl, ⊎_elim, Option, None, Some, Result, Ok, Err}
 use Rattle.space_model.specs.declared.command.Command.{Command}
-use Rattle.space_model.specs.declared.command.Command.TheVariants.{New, Set, DropRoot, Push, Raw, Pop, Store, RawStore, Load, Same, Unprotect, Minor, Gc}
+use Rattle.space_model.specs.declared.command.Command.TheVariants.{New, Set, DropRoot, Push, Raw, Pop, Store, RawStore, Load, Same, Unprotect, Minor, Gc, Sweep, Stat}
 use Rattle.space_model.specs.declared.command.Input.{Input}
 use Rattle.space_model.specs.declared.command.Operand.{Operand}
 use Rattle.space_model.specs.declared.reply.Refusal.{Refusal}
 use Rattle.space_model.specs.declared.reply.Refusal.TheVariants.{Protected}
 use Rattle.space_model.specs.declared.reply.Reply.{Reply}
-use Rattle.space_model.specs.declared.reply.Reply.TheVariants.{Done, Read}
+use Rattle.space_model.specs.declared.reply.Reply.TheVariants.{Done, Read, SweepCount, StatLine}
 use Rattle.space_model.specs.declared.value.Value.{Value}
 use Rattle.space_model.specs.declared.value.Value.TheVariants.{Name}
 use Rattle.space_model.specs.Ages.{is_protected}
@@ -23,7 +23,9 @@ use Rattle.space_model.specs.RootCommands.{WritesRoot, SetReply, DropReply, fiel
 use Rattle.space_model.specs.Roots.{root_value}
 use Rattle.space_model.specs.Sound.{Sound, IsSmall}
 use Rattle.space_model.specs.StackCommands.{PushesWord, PushReply, Pops}
+use Rattle.space_model.specs.Stat.{AnswersStat}
 use Rattle.space_model.specs.State.{State}
+use Rattle.space_model.specs.Sweeps.{Sweeps, AnswersSweep}
 use Rattle.space_model.proofs.ValuesHold.{input_holds, read_holds, write_holds, named_holds}
 use Rattle.space_model.proofs.ValuesKept.{IsPresentValue, present_kept, small_kept}
 
@@ -31,7 +33,7 @@ use Rattle.space_model.proofs.ValuesKept.{IsPresentValue, present_kept, small_ke
 abbrev pub IsValid : Type 0 → State → Value → Type 0
 IsValid given s value = given → Sound s → IsPresentValue s.heap.place value × IsSmall value
 
--- nothing was changed; or a root was written or taken away, the stack replaced, a field written, or a name made unprotected
+-- nothing was changed; or a root was written or taken away, the stack replaced, a field written, a name made unprotected, or pages swept
 pub data IsPiece (given : Type 0) (s t : State) : Type 0 where
   Nothing : (same : t ≡ s) → IsPiece given s t
   Root : (root : List ℕ) → (value : Value) → (ident : given → IsIdent root) → (valid : IsValid given s value) →
@@ -41,6 +43,7 @@ pub data IsPiece (given : Type 0) (s t : State) : Type 0 where
   Field : (name index : ℕ) → (value : Value) → (object : IsValid given s (Name name)) → (valid : IsValid given s value) →
       (after : FieldWritten s name index value t) → IsPiece given s t
   Guard : (name : ℕ) → (object : IsValid given s (Name name)) → (after : MadeUnprotected s name t) → IsPiece given s t
+  Swept : (pages : ℕ) → (freed : List ℕ) → (sweeps : Sweeps pages s freed t) → IsPiece given s t
 
 module _ (given : Type 0) (s t : State) where
   root_piece : (root : List ℕ) (value : Value) (answer reply : Reply) → (given → IsIdent root) → IsValid given s value →
@@ -117,6 +120,14 @@ module _ (given : Type 0) (s t : State) where
       e.1
   unprotect_piece object (Err why) reply f e = Nothing e.unchanged
 
+  sweep_piece : (count : ℕ) (reply : Reply) → AnswersSweep s count reply t → IsPiece given s t
+  sweep_piece count (SweepCount freed left) e = Swept (min count (length s.heap.unswept)) e.0 e.1
+  sweep_piece count _ e = absurd e
+
+  stat_piece : (reply : Reply) → AnswersStat s reply t → IsPiece given s t
+  stat_piece (StatLine stat) e = Nothing e.1
+  stat_piece _ e = absurd e
+
 -- the piece of each command
 pub replied_piece : (s t : State) (command : Command) (reply : Reply) → Replies s command reply t → IsPiece (IsGiven command) s t
 replied_piece s t (New root fields guard style) reply e = absurd e
@@ -138,3 +149,5 @@ replied_piece s t (Unprotect object) reply e =
     unprotect_piece (IsGiven (Unprotect object)) s t object (and_then (operand_value s object) object_in) reply refl e
 replied_piece s t Minor reply e = absurd e
 replied_piece s t Gc reply e = absurd e
+replied_piece s t (Sweep count) reply e = sweep_piece (IsGiven (Sweep count)) s t count reply e
+replied_piece s t Stat reply e = stat_piece (IsGiven Stat) s t reply e

@@ -22,7 +22,7 @@ use Rattle.space_model.specs.Idents.{IsIdent}
 use Rattle.space_model.specs.Lawful.{Effects, Lawful, LawfulAll}
 use Rattle.space_model.specs.Layout.{most_fields, page_of, pool_for}
 use Rattle.space_model.specs.Moments.{noted, mixed_in}
-use Rattle.space_model.specs.NewCommand.{Stage, stages_before_page, all_stages, Finds, AnswersNew}
+use Rattle.space_model.specs.NewCommand.{stages_before_page, all_stages, AnswersNew}
 use Rattle.space_model.specs.Outputs.{Output}
 use Rattle.space_model.specs.Pieces.{new_item, item_written, item_unprotected, born, root_written, root_dropped, stack_replaced, field_written, unprotected}
 use Rattle.space_model.specs.Reach.{IsStart, Reach}
@@ -32,9 +32,10 @@ use Rattle.space_model.specs.Sound.{AreSlots, Sound, IsSmall}
 use Rattle.space_model.specs.State.{State, opening}
 use Rattle.space_model.specs.StoredWords.{without_pair}
 use Rattle.space_model.proofs.AfterPieces.{heap_of, after_piece}
+use Rattle.space_model.proofs.CollectionsKept.{Sound-sweeps}
 use Rattle.space_model.proofs.CorpsesKept.{SoundCorpses-born}
 use Rattle.space_model.proofs.KeptNames.{SoundKept-born}
-use Rattle.space_model.proofs.LayoutKept.{fresh_slot, fresh_corpse, fresh_left, SoundLayout-born}
+use Rattle.space_model.proofs.LayoutKept.{IsFoundAt, found_at, fresh_slot, fresh_corpse, fresh_left, SoundLayout-born}
 use Rattle.space_model.proofs.LeftKept.{SoundLeft-none, SoundStale-none, SoundLeft-born, SoundStale-born}
 use Rattle.space_model.proofs.MapLaws.{some_get}
 use Rattle.space_model.proofs.NamesKept.{written_shape, written_long, SoundNames-born, SoundNames-root_written, SoundNames-root_dropped, SoundNames-field_written, SoundStale-field_written, SoundKept-field_written}
@@ -42,9 +43,9 @@ use Rattle.space_model.proofs.SweepKept.{SoundSweep-born, SoundUsed-born}
 use Rattle.space_model.proofs.Members.{member_filter}
 use Rattle.space_model.proofs.ReachedLaws.{member-keys}
 use Rattle.space_model.proofs.Reaching.{IsReached-least}
-use Rattle.space_model.proofs.RepliedPieces.{IsPiece, Nothing, Root, Dropped, Stack, Field, Guard as GuardPiece, replied_piece}
+use Rattle.space_model.proofs.RepliedPieces.{IsPiece, Nothing, Root, Dropped, Stack, Field, Guard as GuardPiece, Swept, replied_piece}
 use Rattle.space_model.proofs.SameShapes.{SoundLayout-shaped, SoundCorpses-shaped, SoundLeft-shaped}
-use Rattle.space_model.proofs.Stages.{passed_sound}
+use Rattle.space_model.proofs.Stages.{passed_sound, place_sound}
 use Rattle.space_model.proofs.UnprotectedNames.{unprotected_shape, unprotected_long, SoundNames-unprotected, SoundStale-unprotected, SoundKept-unprotected, AreSoundItems-unprotected}
 use Rattle.space_model.proofs.WholeLaws.{collects_sound}
 use Rattle.space_model.proofs.ValuesKept.{IsPresentValue, name_present, AreSoundItems-push, AreSoundItems-field_written, AreSoundRoots-with_root, AreSoundRoots-without_root}
@@ -117,21 +118,21 @@ Sound-opening limit = record {
   };
 }
 
-pub Sound-born : (s t : State) (root : List ℕ) (fields : ℕ) (guard : Guard) (style : Style) (address : ℕ) (stage : Stage) → IsIdent root →
-    fields ≤ most_fields → Finds stage s (pool_for fields) address → t ≡ noted (born s root fields guard style address) → Sound s → Sound t
-Sound-born s t root fields guard style address stage ident few found e h =
-    let fresh = fresh_slot s fields address stage h.layout found in
+pub Sound-born : (s t : State) (root : List ℕ) (fields : ℕ) (guard : Guard) (style : Style) (address : ℕ) → IsIdent root →
+    fields ≤ most_fields → IsFoundAt s (pool_for fields) address → t ≡ noted (born s root fields guard style address) → Sound s → Sound t
+Sound-born s t root fields guard style address ident few found e h =
+    let fresh = fresh_slot s fields address h.layout found in
     let longer = length-append s.graph (new_item guard style fields ∷ []) in
     let older = length-append s.collector.outlived (0 ∷ []) in
     after_piece (born s root fields guard style address) t e (record {
       heap = record {
         layout = SoundLayout-born s root fields guard style address h.layout fresh;
-        corpses = SoundCorpses-born s root fields guard style address h.layout fresh (fresh_corpse s fields address stage h.corpses.slots found) h.corpses;
+        corpses = SoundCorpses-born s root fields guard style address h.layout fresh (fresh_corpse s fields address h.corpses.slots found) h.corpses;
         sweep = SoundSweep-born s.collector.phase s.heap.pages s.heap.unswept (page_of address) (pool_for fields) fresh.below h.sweep;
         used = SoundUsed-born s.graph s.collector.phase s.heap.pages s.heap.unswept s.heap.place address (pool_for fields) fresh.below h.layout.placed h.used;
         resting = h.resting;
         cursor = h.cursor;
-        left = SoundLeft-born s root fields guard style address h.layout fresh (fresh_left s fields address stage h.left.slots found) h.left;
+        left = SoundLeft-born s root fields guard style address h.layout fresh (fresh_left s fields address h.left.slots found) h.left;
         stale = SoundStale-born s fields guard style address h.layout.placed h.stale;
         kept = SoundKept-born s.graph s.heap.pages s.heap.place s.collector.kept (new_item guard style fields) (length s.graph + 1) address h.layout.placed
             h.kept;
@@ -226,8 +227,9 @@ Sound-unprotected s t name there e h =
 new_sound : (s t : State) (root : List ℕ) (fields : ℕ) (guard : Guard) (style : Style) (events : List Event) (reply : Reply) → IsIdent root →
     AnswersNew s root fields guard style events reply t → Sound s → Sound t
 new_sound s t root fields guard style events (Made name address) ident e h =
-    Sound-born e.ready t root fields guard style address e.place.stage ident e.few e.place.found e.made
-    (passed_sound e.place.before s (pool_for fields) events e.ready e.place.passed h)
+    Sound-born e.ready t root fields guard style address ident e.few
+    (found_at e.place.stage e.place.tried (pool_for fields) e.ready address e.place.found) e.made
+    (place_sound s (pool_for fields) events e.ready address e.place h)
 new_sound s t root fields guard style events Full ident e h = passed_sound all_stages s (pool_for fields) events t e.passed h
 new_sound s t root fields guard style events NoMemory ident e h = ⊎_elim
     (λ lacks. subst Sound (sym lacks.unchanged) h)
@@ -245,6 +247,7 @@ piece_sound given s t i (Field name index value object valid after) h =
     let v = valid i h in
     Sound-field_written s t name index value (name_present s.heap.place name (object i h).0) v.0 v.1 after h
 piece_sound given s t i (GuardPiece name object after) h = Sound-unprotected s t name (name_present s.heap.place name (object i h).0) after h
+piece_sound given s t i (Swept pages freed sweeps) h = Sound-sweeps pages s t freed sweeps h
 
 effects_sound : (s t : State) (command : Command) (events : List Event) (answer : List Output) → IsGiven command → Effects s command events answer t →
     Sound s → Sound t

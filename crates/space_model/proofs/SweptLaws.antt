@@ -96,3 +96,25 @@ Sweeps-place (suc pages) s t freed (now, later, mid, both, step, more) =
 
 pub SweepAll-swept : (s t : State) (freed : List ℕ) → SweepAll s freed t → IsSwept s.heap.unswept freed s t
 SweepAll-swept s t freed h = Sweeps-swept s.heap.unswept s t freed refl h
+
+-- after sweeps the phase is that of the pages that wait, where it was before
+pub Sweeps-phase : (pages : ℕ) (s t : State) (freed : List ℕ) → Sweeps pages s freed t → s.collector.phase ≡ sweep_phase s.heap.unswept →
+    t.collector.phase ≡ sweep_phase t.heap.unswept
+Sweeps-phase zero s t freed (none, same) e = subst (λ (u : State). u.collector.phase ≡ sweep_phase u.heap.unswept) (sym same) e
+Sweeps-phase (suc pages) s t freed (now, later, mid, both, step, more) e =
+    Sweeps-phase pages mid t later more (subst (λ (u : State). u.collector.phase ≡ sweep_phase u.heap.unswept) (sym step.after) refl)
+
+-- each page that is swept waits no more, and each corpse that is freed is counted
+pub Sweeps-counted : (pages : ℕ) (s t : State) (freed : List ℕ) → Sweeps pages s freed t →
+    (length t.heap.unswept + pages ≡ length s.heap.unswept) × (t.counters.freed ≡ s.counters.freed + length freed)
+Sweeps-counted zero s t freed (none, same) =
+    subst (λ (u : State). (length u.heap.unswept + 0 ≡ length s.heap.unswept) × (u.counters.freed ≡ s.counters.freed + length freed)) (sym same)
+    (omega arith, (let a : length freed ≡ 0 = ap length none in omega arith))
+Sweeps-counted (suc pages) s t freed (now, later, mid, both, step, more) =
+    let (left, total) = Sweeps-counted pages mid t later more in
+    let waits : length mid.heap.unswept ≡ length step.others = ap (λ (u : State). length u.heap.unswept) step.after in
+    let first : length s.heap.unswept ≡ length (step.page ∷ step.others) = ap length step.first in
+    let counted : mid.counters.freed ≡ s.counters.freed + length now = ap (λ (u : State). u.counters.freed) step.after in
+    let long : length freed ≡ length (now ++ later) = ap length both in
+    let parts = length-append now later in
+    (omega arith, omega arith)

@@ -1,10 +1,8 @@
 -- What a collection does to a state: it keeps it sound, and leaves what was reached; and that there is one.
-use Rattle.std.proofs.Common.{◌≡◌, ◌≢◌, not, nat_eq, ℕ, true, false, List, [], ◌∷◌, ◌++◌, length, refl, sym, ap, ◌∙◌, subst}
-use Rattle.std.specs.Prelude.{is_some, ◌↔◌}
+use Rattle.std.proofs.Common.{◌≡◌, not, nat_eq, ℕ, true, false, List, [], ◌∷◌, ◌++◌, length, refl, sym, ap, ◌∙◌, subst}
+use Rattle.std.specs.Prelude.{◌↔◌}
 use Rattle.std.specs.Set.{is_member}
-use Rattle.std.specs.FinMap.{get}
 use Rattle.std.proofs.lemmas.Bool.{not-true, false≢true, false_from_ne_true}
-use Rattle.std.proofs.lemmas.List.{append-nil}
 use Rattle.space_model.specs.declared.event.Event.{Event}
 use Rattle.space_model.specs.declared.event.Kind.{Kind}
 use Rattle.space_model.specs.declared.event.Kind.TheVariants.{Full}
@@ -12,7 +10,7 @@ use Rattle.space_model.specs.declared.phase.Phase.{Phase}
 use Rattle.space_model.specs.declared.phase.Phase.TheVariants.{Idle, Marking, Sweeping, Moving, Fixing}
 use Rattle.space_model.specs.declared.reply.Reply.{Reply}
 use Rattle.space_model.specs.declared.reply.Reply.TheVariants.{Scanned}
-use Rattle.space_model.specs.Collections.{AreScans, IsCollection, CollectsAll, Collects}
+use Rattle.space_model.specs.Collections.{AreScans, IsCollection, Collects}
 use Rattle.space_model.specs.Completions.{CompletesIn, Completes}
 use Rattle.space_model.specs.Counts.{CountIs}
 use Rattle.space_model.specs.Markings.{mark_started, StartMark, took}
@@ -21,10 +19,9 @@ use Rattle.space_model.specs.Reach.{Reach}
 use Rattle.space_model.specs.Reached.{reached_names}
 use Rattle.space_model.specs.Sound.{Sound}
 use Rattle.space_model.specs.State.{State, is_present}
-use Rattle.space_model.specs.Sweeps.{sweep_phase, SweepAll}
+use Rattle.space_model.specs.Sweeps.{sweep_phase}
 use Rattle.space_model.specs.Verdicts.{IsVerdict, verdict_events}
-use Rattle.space_model.proofs.CollectionsKept.{Sound-start, Sound-mark_started, Sound-took, Sound-swept_all}
-use Rattle.space_model.proofs.CorpseNames.{freed_pages, swept_pages, SweepAll-there}
+use Rattle.space_model.proofs.CollectionsKept.{Sound-start, Sound-took, Sound-swept_all}
 use Rattle.space_model.proofs.Leaving.{Leaves, leaves_same, leaves_marked, leaves_swept, leaves_taken, leaves_then, leaves_reach}
 use Rattle.space_model.proofs.SweptLaws.{SweepAll-swept}
 use Rattle.space_model.proofs.PassingNames.{passing_names, IsRising-passing_names, member-passing_names}
@@ -78,11 +75,6 @@ leaves_collection s t kind events scans c =
     subst (λ events. Leaves s events t) (sym c.events_are)
     (leaves_then s c.idle t c.completion c.told (leaves_completed s c.idle c.completion c.completes) marking)
 
-pub leaves_collected : (s t : State) (kind : Kind) (events : List Event) (scans : ℕ) → CollectsAll s kind events scans t → Leaves s events t
-leaves_collected s t kind events scans c =
-    subst (λ events. Leaves s events t) (append-nil events)
-    (leaves_then s c.unswept t events [] (leaves_collection s c.unswept kind events scans c.collects) (leaves_swept _ c.unswept t c.freed c.sweeps))
-
 -- the marking of a collection starts from a sound state, in which nothing is under way
 marked_sound : (s t : State) (kind : Kind) (events : List Event) (scans : ℕ) (c : IsCollection s kind events scans t) → Sound s →
     Sound c.marked × (c.marked.collector.phase ≡ Idle)
@@ -96,11 +88,8 @@ Sound-collection s t kind events scans c h =
     let (sound, idle) = marked_sound s t kind events scans c h in
     Sound-took c.marked t kind c.taken (λ e. cc) (λ e. cc) c.verdict.verdict c.verdict.takes sound
 
-pub Sound-collects_all : (s t : State) (kind : Kind) (events : List Event) (scans : ℕ) → CollectsAll s kind events scans t → Sound s → Sound t
-Sound-collects_all s t kind events scans c h = Sound-swept_all c.unswept t c.freed c.sweeps (Sound-collection s c.unswept kind events scans c.collects h)
-
 pub collects_sound : (s t : State) (kind : Kind) (events : List Event) (reply : Reply) → Collects s kind events reply t → Sound s → Sound t
-collects_sound s t kind events (Scanned scans) c h = Sound-collects_all s t kind events scans c h
+collects_sound s t kind events (Scanned scans) c h = Sound-collection s t kind events scans c h
 collects_sound s t kind events _ c h = absurd c
 
 -- as many have a property as have another that comes to the same
@@ -127,14 +116,6 @@ collection_leaves s t events scans c h n =
     let same = marked_reach c.idle c.marked c.starts n in
     ((λ p. same.0 (there.0 p)), (λ r. there.1 (same.1 r)))
 
-pub collects_leaves : (s t : State) (events : List Event) (scans : ℕ) (c : CollectsAll s Full events scans t) → Sound s → (n : ℕ) →
-    (is_present t n ≡ true) ↔ Reach c.collects.idle n
-collects_leaves s t events scans c h n =
-    let same : t.heap.place ≡ c.unswept.heap.place = (SweepAll-swept c.unswept t c.freed c.sweeps).place in
-    let e : is_present t n ≡ is_present c.unswept n = ap (λ place. is_some (get place n)) same in
-    let k = collection_leaves s c.unswept events scans c.collects h n in
-    ((λ p. k.0 (sym e ∙ p)), (λ r. e ∙ k.1 r))
-
 -- the same names are reached after a completion
 pub completed_reach : (s t : State) (events : List Event) → Completes s events t → (n : ℕ) → Reach t n ↔ Reach s n
 completed_reach s t events c n = leaves_reach s events t (leaves_completed s t events c) n
@@ -143,55 +124,32 @@ completed_reach s t events c n = leaves_reach s events t (leaves_completed s t e
 pub completed_present : (s t : State) (events : List Event) → Completes s events t → Sound s → (n : ℕ) → Reach s n → is_present t n ≡ true
 completed_present s t events c h n r = reach_present t (Sound-completed s t events c h).names n ((completed_reach s t events c n).1 r)
 
--- nothing is under way after a collection and the sweep of all pages, and no page waits
-pub collects_idle : (s t : State) (kind : Kind) (events : List Event) (scans : ℕ) → CollectsAll s kind events scans t → t.collector.phase ≡ Idle
-collects_idle s t kind events scans c =
-    (SweepAll-swept c.unswept t c.freed c.sweeps).phase
-    (subst (λ (u : State). u.collector.phase ≡ sweep_phase u.heap.unswept) (sym c.collects.verdict.takes) refl)
-
-pub collects_none_waits : (s t : State) (kind : Kind) (events : List Event) (scans : ℕ) → CollectsAll s kind events scans t → t.heap.unswept ≡ []
-collects_none_waits s t kind events scans c = (SweepAll-swept c.unswept t c.freed c.sweeps).none_waits
+-- after a collection the phase is that of the pages that wait
+pub collection_phase : (s t : State) (kind : Kind) (events : List Event) (scans : ℕ) → IsCollection s kind events scans t →
+    t.collector.phase ≡ sweep_phase t.heap.unswept
+collection_phase s t kind events scans c =
+    subst (λ (u : State). u.collector.phase ≡ sweep_phase u.heap.unswept) (sym c.verdict.takes) refl
 
 -- the state after a collection, from one in which nothing is under way, by its kind and the names that are taken
 abbrev pub collected_state : State → Kind → List ℕ → State
-collected_state s kind taken =
-    let m : State = noted (took (mark_started s) kind taken) in
-    swept_pages m.heap.unswept m
+collected_state s kind taken = noted (took (mark_started s) kind taken)
 
-abbrev freed_names : State → Kind → List ℕ → List ℕ
-freed_names s kind taken =
-    let m : State = noted (took (mark_started s) kind taken) in
-    freed_pages m.heap.unswept m
-
-module _ (s : State) (kind : Kind) (taken : List ℕ) (h : Sound s) (moves : s.collector.phase ≢ Moving) (fixes : s.collector.phase ≢ Fixing)
-    (v : IsVerdict (mark_started s) kind taken) where
-  taken_sound : Sound (noted (took (mark_started s) kind taken))
-  taken_sound = Sound-took (mark_started s) (noted (took (mark_started s) kind taken)) kind taken moves fixes v refl (Sound-mark_started s h)
-
-  all_swept : SweepAll (noted (took (mark_started s) kind taken)) (freed_names s kind taken) (collected_state s kind taken)
-  all_swept = SweepAll-there (noted (took (mark_started s) kind taken)) taken_sound
-
-  -- a completion, a verdict, and a number of scans make a collection
-  pub collects_after : (before : State) (completion : List Event) (scans : ℕ) → Completes before completion s →
-      AreScans kind s (mark_started s) taken scans →
-      CollectsAll before kind (completion ++ verdict_events kind taken) scans (collected_state s kind taken)
-  collects_after before completion scans completes are = record {
-    unswept = noted (took (mark_started s) kind taken);
-    collects = record {
-      idle = s;
-      completion = completion;
-      completes = completes;
-      marked = mark_started s;
-      starts = refl;
-      taken = taken;
-      told = verdict_events kind taken;
-      verdict = record { verdict = v; takes = refl; events_are = refl };
-      scans_are = are;
-      events_are = refl;
-    };
-    freed = freed_names s kind taken;
-    sweeps = all_swept;
-  }
+-- a completion, a verdict, and a number of scans make a collection
+pub collects_after : (s : State) (kind : Kind) (taken : List ℕ) → IsVerdict (mark_started s) kind taken →
+    (before : State) (completion : List Event) (scans : ℕ) → Completes before completion s → AreScans kind s (mark_started s) taken scans →
+    IsCollection before kind (completion ++ verdict_events kind taken) scans (collected_state s kind taken)
+collects_after s kind taken v before completion scans completes are = record {
+  idle = s;
+  completion = completion;
+  completes = completes;
+  marked = mark_started s;
+  starts = refl;
+  taken = taken;
+  told = verdict_events kind taken;
+  verdict = record { verdict = v; takes = refl; events_are = refl };
+  scans_are = are;
+  events_are = refl;
+}
 
 -- the present names that aren't reached, in ascending order of place
 pub unreached_names : State → List ℕ
@@ -214,10 +172,9 @@ unreached_verdict s h =
 
 -- so where what is under way can be completed there is a whole collection
 pub collects_there : (s idle : State) (completion : List Event) → Completes s completion idle → Sound s →
-    CollectsAll s Full (completion ++ verdict_events Full (unreached_names idle)) (length (reached_names idle))
+    IsCollection s Full (completion ++ verdict_events Full (unreached_names idle)) (length (reached_names idle))
     (collected_state idle Full (unreached_names idle))
 collects_there s idle completion completes h =
     let sound : Sound idle = Sound-completed s idle completion completes h in
-    let rests : idle.collector.phase ≡ Idle = completed_idle s idle completion completes h in
-    collects_after idle Full (unreached_names idle) sound (λ e. cc) (λ e. cc) (verdict_marked idle (unreached_names idle) (unreached_verdict idle sound)) s
+    collects_after idle Full (unreached_names idle) (verdict_marked idle (unreached_names idle) (unreached_verdict idle sound)) s
     completion (length (reached_names idle)) completes refl

@@ -12,7 +12,6 @@ use Rattle.space_model.specs.Completions.{Completes}
 use Rattle.space_model.specs.Counts.{CountIs}
 use Rattle.space_model.specs.Markings.{StartMark, GivesVerdict}
 use Rattle.space_model.specs.State.{State, is_present}
-use Rattle.space_model.specs.Sweeps.{SweepAll}
 
 -- the name isn't old, and the verdict doesn't take it
 abbrev pub IsYoungSurvivor : State → List ℕ → ℕ → Type 0
@@ -52,14 +51,7 @@ pub record IsCollection (s : State) (kind : Kind) (events : List Event) (scans :
   pub scans_are : AreScans kind idle marked taken scans
   pub events_are : events ≡ completion ++ told
 
--- a collection, and then every page is swept, in the same command: the trace has no command of its own for that yet
-pub record CollectsAll (s : State) (kind : Kind) (events : List Event) (scans : ℕ) (t : State) : Type 0 where
-  pub unswept : State
-  pub collects : IsCollection s kind events scans unswept
-  pub freed : List ℕ
-  pub sweeps : SweepAll unswept freed t
-
 -- a command that collects tells how many scans its marking did
 abbrev pub Collects : State → Kind → List Event → Reply → State → Type 0
-Collects s kind events (Scanned scans) t = CollectsAll s kind events scans t
+Collects s kind events (Scanned scans) t = IsCollection s kind events scans t
 Collects s kind events _ t = ⊥

@@ -1,7 +1,7 @@
 -- Which outputs a command may have, and the state after it: one row a command.
 use Rattle.std.specs.Prelude.{◌≡◌, List, [], ◌∷◌, ◌++◌, map}
 use Rattle.space_model.specs.declared.command.Command.{Command}
-use Rattle.space_model.specs.declared.command.Command.TheVariants.{New, Set, DropRoot, Push, Raw, Pop, Store, RawStore, Load, Same, Unprotect, Minor, Gc}
+use Rattle.space_model.specs.declared.command.Command.TheVariants.{New, Set, DropRoot, Push, Raw, Pop, Store, RawStore, Load, Same, Unprotect, Minor, Gc, Sweep, Stat}
 use Rattle.space_model.specs.declared.event.Event.{Event}
 use Rattle.space_model.specs.declared.event.Kind.TheVariants.{Minor as MinorKind, Full}
 use Rattle.space_model.specs.declared.reply.Reply.{Reply}
@@ -11,7 +11,9 @@ use Rattle.space_model.specs.Collections.{Collects}
 use Rattle.space_model.specs.NewCommand.{AnswersNew}
 use Rattle.space_model.specs.Outputs.{Output, Told, Replied}
 use Rattle.space_model.specs.StackCommands.{Pushes, PushesWord, Pops}
+use Rattle.space_model.specs.Stat.{AnswersStat}
 use Rattle.space_model.specs.State.{State}
+use Rattle.space_model.specs.Sweeps.{AnswersSweep}
 
 -- the reply of a command without events, and the state after it; of a command with events it never holds
 abbrev pub Replies : State → Command → Reply → State → Type 0
@@ -25,6 +27,8 @@ Replies s (RawStore object index value) reply t = RawStores s object index value
 Replies s (Load root object index) reply t = Loads s root object index reply t
 Replies s (Same left right) reply t = Compares s left right reply t
 Replies s (Unprotect object) reply t = Unprotects s object reply t
+Replies s (Sweep count) reply t = AnswersSweep s count reply t
+Replies s Stat reply t = AnswersStat s reply t
 Replies s _ reply t = ⊥
 
 -- the outputs are one reply, of which this holds

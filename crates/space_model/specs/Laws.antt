@@ -1,5 +1,5 @@
 -- The laws of the definitions, which functions of this crate promise.
-use Rattle.std.specs.Prelude.{◌≡◌, ◌≢◌, ◌↔◌, ℕ, ◌≤◌, Bool, true, false, List, [], length, Option, Some, nat_eq}
+use Rattle.std.specs.Prelude.{◌≡◌, ◌≢◌, ◌↔◌, ℕ, ◌+◌, ◌≤◌, Bool, true, false, List, [], length, Option, Some, nat_eq}
 use Rattle.std.specs.List.{IsDistinct}
 use Rattle.std.specs.Set.{is_member}
 use Rattle.std.specs.FinMap.{get}
@@ -13,7 +13,8 @@ use Rattle.space_model.specs.declared.object.Guard.{Guard}
 use Rattle.space_model.specs.declared.object.Style.{Style}
 use Rattle.space_model.specs.declared.phase.Phase.TheVariants.{Moving, Fixing}
 use Rattle.space_model.specs.declared.reply.Reply.{Reply}
-use Rattle.space_model.specs.declared.reply.Reply.TheVariants.{Made, Pushed, Scanned, Full as FullReply}
+use Rattle.space_model.specs.declared.reply.Reply.TheVariants.{Made, Pushed, Scanned, SweepCount, StatLine, Full as FullReply}
+use Rattle.space_model.specs.declared.stat.Stat.{Stat}
 use Rattle.space_model.specs.declared.value.Value.{Value}
 use Rattle.space_model.specs.Collections.{IsCollection, Collects}
 use Rattle.space_model.specs.Completions.{Completes}
@@ -36,8 +37,9 @@ use Rattle.space_model.specs.Reached.{reached_names}
 use Rattle.space_model.specs.Roots.{root_value}
 use Rattle.space_model.specs.Sound.{Sound, SoundMoments}
 use Rattle.space_model.specs.StackCommands.{Pushes}
+use Rattle.space_model.specs.Stat.{AreCounts, AnswersStat}
 use Rattle.space_model.specs.State.{State, is_present, opening}
-use Rattle.space_model.specs.Sweeps.{Sweep1, Sweeps, SweepAll}
+use Rattle.space_model.specs.Sweeps.{Sweep1, Sweeps, SweepAll, AnswersSweep}
 use Rattle.space_model.specs.Texts.{text_of, AreSpelled}
 use Rattle.space_model.specs.ToldInOrder.{AreToldInOrder}
 use Rattle.space_model.specs.Verdicts.{IsVerdict}
@@ -112,6 +114,24 @@ SweepsAreSound = (pages : ℕ) (s t : State) (freed : List ℕ) → Sweeps pages
 -- in a sound state all pages can be swept, and nothing waits for a sweep after it
 abbrev pub SweepAllEnds : Type 0
 SweepAllEnds = (s : State) → Sound s → (freed : List ℕ) × (t : State) × SweepAll s freed t × (t.heap.unswept ≡ [])
+
+-- each page that is swept waits no more, and each corpse that is freed is counted
+abbrev pub SweepsAreCounted : Type 0
+SweepsAreCounted =
+    (pages : ℕ) (s t : State) (freed : List ℕ) → Sweeps pages s freed t →
+    (length t.heap.unswept + pages ≡ length s.heap.unswept) × (t.counters.freed ≡ s.counters.freed + length freed)
+
+-- a sound state has a `sweep` of any count
+abbrev pub SweepIsThere : Type 0
+SweepIsThere = (s : State) (count : ℕ) → Sound s → (freed left : ℕ) × (t : State) × AnswersSweep s count (SweepCount freed left) t
+
+-- a sound state has a `stat`
+abbrev pub StatIsThere : Type 0
+StatIsThere = (s : State) → Sound s → (stat : Stat) × AnswersStat s (StatLine stat) s
+
+-- and one alone, where no other names may be kept than those that are for certain
+abbrev pub CountsAreOne : Type 0
+CountsAreOne = (s : State) (stat other : Stat) → s.collector.vague ≡ 0 → AreCounts s stat → AreCounts s other → stat ≡ other
 
 -- what completes the work under way leads from a sound state to a sound state
 abbrev pub CompletesIsSound : Type 0

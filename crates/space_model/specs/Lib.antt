@@ -28,6 +28,7 @@ pub mod StoredWords
 pub mod RootCommands
 pub mod ObjectCommands
 pub mod StackCommands
+pub mod Stat
 pub mod NewCommand
 pub mod Lawful
 pub mod Sound

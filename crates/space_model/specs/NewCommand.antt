@@ -1,5 +1,5 @@
 -- What `new` tries, one stage after another, and what it replies. The stages and their order are this project's own.
-use Rattle.std.specs.Prelude.{◌≡◌, ◌⊎◌, ℕ, ◌+◌, ◌≤◌, ◌<◌, List, [], ◌∷◌, ◌++◌, length, None}
+use Rattle.std.specs.Prelude.{◌≡◌, ◌⊎◌, ℕ, ◌+◌, ◌≤◌, ◌<◌, zero, suc, List, [], ◌∷◌, ◌++◌, length, None}
 use Rattle.space_model.specs.declared.event.Event.{Event}
 use Rattle.space_model.specs.declared.event.Kind.TheVariants.{Full as FullKind}
 use Rattle.space_model.specs.declared.object.Guard.{Guard}
@@ -7,17 +7,20 @@ use Rattle.space_model.specs.declared.object.Style.{Style}
 use Rattle.space_model.specs.declared.reply.Refusal.TheVariants.{TooLarge}
 use Rattle.space_model.specs.declared.reply.Reply.{Reply}
 use Rattle.space_model.specs.declared.reply.Reply.TheVariants.{Made, Full, NoMemory, Refused}
-use Rattle.space_model.specs.Collections.{CollectsAll}
+use Rattle.space_model.specs.Collections.{IsCollection}
 use Rattle.space_model.specs.Layout.{most_fields, pool_for, slot_address}
 use Rattle.space_model.specs.Pieces.{Born}
 use Rattle.space_model.specs.Places.{IsNewAt, HasNoFreeAddress, HasNoSpare, IsFreshPage}
 use Rattle.space_model.specs.Roots.{root_value}
 use Rattle.space_model.specs.State.{State}
+use Rattle.space_model.specs.Sweeps.{Sweep1}
 
 -- a stage: either it finds an address for the object, or it leaves a state from which the next stage goes on
 pub data Stage : Type 0 where
   -- the least address that is free for the pool
   FreeAddress : Stage
+  -- the same, after pages that wait were swept, one after another, until one has a free slot
+  WaitingPages : Stage
   -- the first address of the lowest spare page, or of a new page where none is spare
   FreshPage : Stage
   -- a whole collection, while the root still holds what it held
@@ -25,23 +28,32 @@ pub data Stage : Type 0 where
 
 -- the stages before a page is taken
 abbrev pub stages_before_page : List Stage
-stages_before_page = FreeAddress ∷ []
+stages_before_page = FreeAddress ∷ WaitingPages ∷ []
 
 -- all stages, in their order: after the collection the others are tried again
 abbrev pub all_stages : List Stage
-all_stages = stages_before_page ++ FreshPage ∷ Collection ∷ FreeAddress ∷ FreshPage ∷ []
+all_stages = stages_before_page ++ FreshPage ∷ Collection ∷ FreeAddress ∷ WaitingPages ∷ FreshPage ∷ []
 
--- the stage finds this address for an object of the pool
-abbrev pub Finds : Stage → State → ℕ → ℕ → Type 0
-Finds FreeAddress s pool address = IsNewAt s pool address
-Finds FreshPage s pool address = (page : ℕ) × IsFreshPage s page × (address ≡ slot_address page pool 0)
-Finds Collection s pool address = ⊥
+-- so many pages that wait were swept, each since no address was free for the pool
+abbrev pub SweepsInNeed : ℕ → State → ℕ → State → Type 0
+SweepsInNeed zero s pool t = t ≡ s
+SweepsInNeed (suc pages) s pool t =
+    HasNoFreeAddress s pool × (freed : List ℕ) × (mid : State) × Sweep1 s freed mid × SweepsInNeed pages mid pool t
+
+-- the stage finds this address for an object of the pool, in the state that it leaves
+abbrev pub Finds : Stage → State → ℕ → State → ℕ → Type 0
+Finds FreeAddress s pool t address = (t ≡ s) × IsNewAt t pool address
+Finds WaitingPages s pool t address = (pages : ℕ) × SweepsInNeed pages s pool t × IsNewAt t pool address
+Finds FreshPage s pool t address = (t ≡ s) × (page : ℕ) × IsFreshPage t page × (address ≡ slot_address page pool 0)
+Finds Collection s pool t address = ⊥
 
 -- the stage finds none; its events, and the state that it leaves
 abbrev pub Passes : Stage → State → ℕ → List Event → State → Type 0
 Passes FreeAddress s pool events t = HasNoFreeAddress s pool × (events ≡ []) × (t ≡ s)
+Passes WaitingPages s pool events t =
+    (pages : ℕ) × SweepsInNeed pages s pool t × HasNoFreeAddress t pool × (t.heap.unswept ≡ []) × (events ≡ [])
 Passes FreshPage s pool events t = HasNoSpare s × (length s.heap.pages ≡ s.heap.limit) × (events ≡ []) × (t ≡ s)
-Passes Collection s pool events t = (scans : ℕ) × CollectsAll s FullKind events scans t
+Passes Collection s pool events t = (scans : ℕ) × IsCollection s FullKind events scans t
 
 -- the stages follow one another, and none finds an address
 abbrev pub PassesAll : List Stage → State → ℕ → List Event → State → Type 0
@@ -49,14 +61,16 @@ PassesAll [] s pool events t = (events ≡ []) × (t ≡ s)
 PassesAll (stage ∷ stages) s pool events t =
     (now : List Event) × (later : List Event) × (mid : State) × (events ≡ now ++ later) × Passes stage s pool now mid × PassesAll stages mid pool later t
 
--- some stage finds the address; the stages before it left the state `ready`
+-- some stage finds the address, and leaves the state `ready`
 pub record FindsPlace (s : State) (pool : ℕ) (events : List Event) (ready : State) (address : ℕ) : Type 0 where
   pub before : List Stage
   pub stage : Stage
   pub after : List Stage
   pub order : all_stages ≡ before ++ stage ∷ after
-  pub passed : PassesAll before s pool events ready
-  pub found : Finds stage ready pool address
+  -- the state that the stages before it left
+  pub tried : State
+  pub passed : PassesAll before s pool events tried
+  pub found : Finds stage tried pool ready address
 
 -- an object was made, and stands at the address
 pub record Makes (s : State) (root : List ℕ) (fields : ℕ) (guard : Guard) (style : Style) (events : List Event) (name address : ℕ) (t : State) : Type 0 where

@@ -1,10 +1,12 @@
 -- The sweep of pages, in ascending order of their numbers. Sweeping page by page is CRuby's; its order is this project's own.
-use Rattle.std.specs.Prelude.{◌≡◌, ◌↔◌, ℕ, zero, suc, ◌+◌, true, List, [], ◌∷◌, ◌++◌, length, nat_eq}
+use Rattle.std.specs.Prelude.{◌≡◌, ◌↔◌, ℕ, zero, suc, ◌+◌, min, true, List, [], ◌∷◌, ◌++◌, length, nat_eq}
 use Rattle.std.specs.Ordering.{nat_cmp}
 use Rattle.std.specs.Set.{is_member}
 use Rattle.std.specs.FinMap.{FinMap}
 use Rattle.space_model.specs.declared.phase.Phase.{Phase}
 use Rattle.space_model.specs.declared.phase.Phase.TheVariants.{Idle, Sweeping}
+use Rattle.space_model.specs.declared.reply.Reply.{Reply}
+use Rattle.space_model.specs.declared.reply.Reply.TheVariants.{SweepCount}
 use Rattle.space_model.specs.Maps.{IsRising, without}
 use Rattle.space_model.specs.Moments.{noted}
 use Rattle.space_model.specs.Pages.{StandsOn, spared}
@@ -49,3 +51,9 @@ Sweeps (suc pages) s freed t =
 -- every page that waits is swept
 abbrev pub SweepAll : State → List ℕ → State → Type 0
 SweepAll s freed t = Sweeps (length s.heap.unswept) s freed t
+
+-- `sweep`: so many pages are swept, or all that wait where fewer do; it tells how many slots were freed, and how many pages still wait
+abbrev pub AnswersSweep : State → ℕ → Reply → State → Type 0
+AnswersSweep s count (SweepCount freed left) t =
+    (names : List ℕ) × Sweeps (min count (length s.heap.unswept)) s names t × (freed ≡ length names) × (left ≡ length t.heap.unswept)
+AnswersSweep s count _ t = ⊥

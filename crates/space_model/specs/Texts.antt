@@ -8,7 +8,8 @@ use Rattle.space_model.specs.declared.event.Kind.TheVariants.{Minor, Major, Full
 use Rattle.space_model.specs.declared.reply.Refusal.{Refusal}
 use Rattle.space_model.specs.declared.reply.Refusal.TheVariants.{TooLarge, NoRoot, NoWord, NotObject, NoField, Protected}
 use Rattle.space_model.specs.declared.reply.Reply.{Reply}
-use Rattle.space_model.specs.declared.reply.Reply.TheVariants.{Made, Full, NoMemory, Done, Pushed, Read, Truth, Scanned, Refused}
+use Rattle.space_model.specs.declared.stat.Stat.{Stat}
+use Rattle.space_model.specs.declared.reply.Reply.TheVariants.{Made, Full, NoMemory, Done, Pushed, Read, Truth, Scanned, SweepCount, StatLine, Refused}
 use Rattle.space_model.specs.declared.value.Value.{Value}
 use Rattle.space_model.specs.declared.value.Value.TheVariants.{Nil, Small, Name}
 use Rattle.space_model.specs.Outputs.{Output, Told, Replied}
@@ -50,6 +51,26 @@ abbrev pub named_pieces : Option ℕ → List Piece
 named_pieces None = Say (codes "-") ∷ []
 named_pieces (Some name) = Say (codes "#") ∷ Number name ∷ []
 
+-- a space, the name of a count, `=` and the number
+abbrev pub count_pieces : List ℕ → ℕ → List Piece
+count_pieces name number = Say (codes " " ++ name ++ codes "=") ∷ Number number ∷ []
+
+-- the counts, in their order
+unfoldable pub stat_pieces : Stat → List Piece
+stat_pieces stat =
+    count_pieces (codes "count") stat.count
+    ++ count_pieces (codes "minor_gc_count") stat.minor_gc_count
+    ++ count_pieces (codes "major_gc_count") stat.major_gc_count
+    ++ count_pieces (codes "heap_allocated_pages") stat.heap_allocated_pages
+    ++ count_pieces (codes "heap_live_slots") stat.heap_live_slots
+    ++ count_pieces (codes "heap_free_slots") stat.heap_free_slots
+    ++ count_pieces (codes "total_allocated_objects") stat.total_allocated_objects
+    ++ count_pieces (codes "total_freed_objects") stat.total_freed_objects
+    ++ count_pieces (codes "old_objects") stat.old_objects
+    ++ count_pieces (codes "remembered_wb_unprotected_objects") stat.remembered_wb_unprotected_objects
+    ++ count_pieces (codes "compact_count") stat.compact_count
+    ++ count_pieces (codes "total_moved_objects") stat.total_moved_objects
+
 -- the pieces of the line of a reply
 abbrev pub reply_pieces : Reply → List Piece
 reply_pieces (Made name address) = Say (codes "#") ∷ Number name ∷ Say (codes " ") ∷ Hex address ∷ []
@@ -60,6 +81,8 @@ reply_pieces (Pushed word names) = Say (codes "word ") ∷ Hex word ∷ Say (cod
 reply_pieces (Read value) = value_pieces value
 reply_pieces (Truth answer) = Say (truth_text answer) ∷ []
 reply_pieces (Scanned count) = Say (codes "ok scanned ") ∷ Number count ∷ []
+reply_pieces (SweepCount freed left) = Say (codes "freed ") ∷ Number freed ∷ Say (codes " left ") ∷ Number left ∷ []
+reply_pieces (StatLine stat) = Say (codes "stat") ∷ stat_pieces stat
 reply_pieces (Refused why) = Say (refusal_text why) ∷ []
 
 -- the pieces of the line of an output

@@ -81,4 +81,10 @@ pub enum Command {
     Minor,
     /// A whole collection: what no root and no stack word leads to goes (`GC.start` of CRuby 3.3).
     Gc,
+    /// Sweeps so many pages that wait, or all where fewer do.
+    Sweep {
+        count: u64,
+    },
+    /// Tells the counts of the space.
+    Stat,
 }

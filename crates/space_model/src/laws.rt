@@ -1,7 +1,8 @@
 // Laws of the definitions: functions that do nothing, and promise them.
 ghost use Rattle.space_model.specs.Laws.{ReachHasStarts, ReachIsClosed, ReachIsLeast, ReachIsListed, ReachIsListedOnce, NotingIsDone, NotingStays};
 ghost use Rattle.space_model.specs.Laws.{OpeningIsSound, LawfulIsSound, LawfulAllIsSound, InputsAreGiven};
-ghost use Rattle.space_model.specs.Laws.{StartMarkIsSound, TookIsSound, Sweep1IsSound, SweepsAreSound, SweepAllEnds, CompletesIsSound};
+ghost use Rattle.space_model.specs.Laws.{StartMarkIsSound, TookIsSound, Sweep1IsSound, SweepsAreSound, SweepAllEnds, SweepsAreCounted, SweepIsThere, CompletesIsSound};
+ghost use Rattle.space_model.specs.Laws.{StatIsThere, CountsAreOne};
 ghost use Rattle.space_model.specs.Laws.{SeenAreReached, VerdictsReachNoMore, ReachedOutliveVerdicts, FullLeavesReached};
 ghost use Rattle.space_model.specs.Laws.{SweepsKeepPlaces, SweepsKeepReach, CompletesReachNoMore, ReachedOutliveCompletions};
 ghost use Rattle.space_model.specs.Laws.{CollectionScansReached, FullCollectionLeavesReached, CollectionsKeepGraph, GcIsThere, MinorIsThere};
@@ -39,7 +40,15 @@ pub fn collections_are_sound()
     ensures swept { Sweep1IsSound }
     ensures sweeps { SweepsAreSound }
     ensures ends { SweepAllEnds }
+    ensures counted { SweepsAreCounted }
+    ensures possible { SweepIsThere }
     ensures completed { CompletesIsSound }
+{}
+
+/// The counts of a space can be told, and where no names may be kept but those that are for certain there are no others.
+pub fn counts_are_there()
+    ensures possible { StatIsThere }
+    ensures one { CountsAreOne }
 {}
 
 /// A verdict leaves what is reached and makes nothing more so, and a full one leaves nothing else.

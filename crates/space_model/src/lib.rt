@@ -10,6 +10,7 @@ mod ledger;
 mod object;
 mod phase;
 mod reply;
+mod stat;
 mod value;
 
 pub use command::{Command, Input, Operand};
@@ -23,4 +24,5 @@ pub use ledger::{Ledger, Steps};
 pub use object::{Guard, Style};
 pub use phase::Phase;
 pub use reply::{Refusal, Reply};
+pub use stat::Stat;
 pub use value::{Value, small_of, small_word};

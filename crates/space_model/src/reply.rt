@@ -1,5 +1,5 @@
 // What a command is answered.
-use crate::Value;
+use crate::{Stat, Value};
 
 /// Why a command was refused. The refusal that stands first here is the answer, where several apply.
 #[derive(Clone, Copy, Debug, PartialEq, Eq)]
@@ -38,6 +38,10 @@ pub enum Reply {
     Truth { yes: bool },
     /// A marking was done with so many scans: each reads the fields of one object.
     Scanned { count: u64 },
+    /// So many slots of gone objects were made free, and so many pages with a pool still wait for a sweep.
+    SweepCount { freed: u64, left: u32 },
+    /// The counts of the space.
+    StatLine { stat: Stat },
     /// The command was refused, and nothing was changed.
     Refused { why: Refusal },
 }

@@ -161,11 +161,17 @@ impl Plane {
     }
 
     /// The first index from `i` on whose bit is 1. Past the end there is none.
+    // A walk over many bits asks for each of them.
+    #[inline(always)]
     pub fn first_set_from(&self, i: u32) -> Option<u32>
         ensures { MatchOption result (IsClearFrom self.now i) (IsFirstSet self.now i) }
     {
         if i >= self.len() {
             return None;
+        }
+        // Bits that are 1 often stand side by side: then the next one is found at once.
+        if self.get(i) {
+            return Some(i);
         }
         let mut at = formulas::pass_clear(&self.bits, i as usize) as u32;
         while at < self.len() {

@@ -1,5 +1,5 @@
 -- What holds of the pools still holds after a slot was lent, and what a new page makes of them.
-use Rattle.std.proofs.Common.{◌≡◌, ⊎_elim, ℕ, ◌+◌, ◌<◌, ◌≤◌, Bool, true, false, cond, List, [], ◌∷◌, ◌++◌, length, set, get_or, refl, sym, ap, ◌∙◌, subst, arith, nat_lt, Some}
+use Rattle.std.proofs.Common.{◌≡◌, ⊎_elim, ℕ, ◌+◌, ◌-◌, ◌<◌, ◌≤◌, Bool, true, false, cond, List, [], ◌∷◌, ◌++◌, length, set, get_or, refl, sym, ap, ◌∙◌, subst, arith, nat_lt, Some}
 use Rattle.std.specs.Vec.{with_item}
 use Rattle.std.specs.Prelude.{is_none}
 use Rattle.std.proofs.lemmas.Bool.{cases_eq, cond-true, cond-false}
@@ -9,11 +9,13 @@ use Rattle.std.proofs.lemmas.List.Sums.{sum_by-set}
 use Rattle.space_pools.specs.PageSlots.{PageSlots, spare_page, free_page, free_in, written_in, freed_in}
 use Rattle.space_pools.specs.PoolsView.{PoolsView, page_at, pool_at, unswept_at, with_page, written_at}
 use Rattle.space_pools.specs.Spare.{is_spare, spare_count, with_free_page}
+use Rattle.space_pools.specs.Unswept.{AreUnswept, IsNextUnswept}
 use Rattle.space_pools.specs.Sound.{IsSoundPage, IsSoundPools}
 use Rattle.space_pools.specs.InsidePools.{AreFullBelow, view_from, ArePools}
 use Rattle.space_pools.specs.declared.pools.Pools.TheInside.{Inside}
 use Rattle.space_pools.proofs.PoolLaws.{page_at-with_page_same, page_at-with_page_other}
-use Rattle.space_pools.proofs.Freed.{pool_freed, length-freed_in, freed_words}
+use Rattle.space_pools.proofs.Waiting.{one_if, waiting_kept, waiting_left}
+use Rattle.space_pools.proofs.Freed.{pool_freed, swept_freed, length-freed_in, freed_words}
 use Rattle.space_pools.proofs.Written.{pool_written, free_written, unswept_written, sound_written}
 
 pub sound_with_page : (v : PoolsView) (page : ℕ) (p : PageSlots) → page < length v.pages → IsSoundPage p → IsSoundPools v → IsSoundPools (with_page v page p)
@@ -60,6 +62,9 @@ module _ (v : PoolsView) (page slot : ℕ) (ws : List ℕ) (here : page < length
 
   pub full_written_at : (cursors : List ℕ) → AreFullBelow v cursors → AreFullBelow w cursors
   full_written_at cursors h pool k below its i swept = same_free k i ∙ h pool k below (sym (same_pool k) ∙ its) i (sym (same_unswept k) ∙ swept)
+
+  pub waiting_written_at : (first count : ℕ) → AreUnswept v first count → AreUnswept w first count
+  waiting_written_at first count h = waiting_kept v page (written_in (page_at v page) slot ws) here first count (unswept_written (page_at v page) slot ws) h
 
   pub spares_written_at : spare_count w ≡ spare_count v
   spares_written_at =
@@ -129,15 +134,19 @@ sound_freed p free pool its h = record {
 }
 
 -- what holds of the pools after the slots of a plane became free on a page
-pub freed_pools : (h : Inside) (page pool least : ℕ) (free : List Bool) (p : PageSlots) → ArePools h → page < length h.pages.items
+pub freed_pools : (h : Inside) (page pool least next less : ℕ) (free : List Bool) (p : PageSlots) → ArePools h → page < length h.pages.items
     → pool_at (view_from h) page ≡ Some pool → pool < length h.cursors → least ≤ get_or h.cursors pool 0 → least ≤ page
-    → p ≡ freed_in (page_at (view_from h) page) free → ArePools (record h { pages = with_item h.pages page p; cursors = set h.cursors pool least })
-freed_pools h page pool least free p known here its within lower at is =
+    → IsNextUnswept (with_page (view_from h) page p) h.first_unswept next → less ≡ one_if (unswept_at (view_from h) page)
+    → p ≡ freed_in (page_at (view_from h) page) free
+    → ArePools (record h { pages = with_item h.pages page p; cursors = set h.cursors pool least; first_unswept = next; unswept = h.unswept - less })
+freed_pools h page pool least next less free p known here its within lower at next_is less_is is =
     let v = view_from h in
     let pool_is : p.pool ≡ Some pool = ap (λ (p : PageSlots). p.pool) is ∙ pool_freed (page_at v page) free ∙ its in
+    let swept : p.unswept ≡ false = ap (λ (p : PageSlots). p.unswept) is ∙ swept_freed (page_at v page) free in
     record {
       sound = sound_with_page v page p here (subst IsSoundPage (sym is) (sound_freed (page_at v page) free pool its (known.sound.sound page))) known.sound;
       room = known.room;
       spares = known.spares ∙ sym (spares_same v page pool p here pool_is h.cursors least within its);
+      waiting = waiting_left v page p here h.first_unswept next h.unswept less swept next_is less_is known.waiting;
       full = full_lowered v page pool p here pool_is h.cursors least within lower at known.full;
     }

@@ -4,6 +4,7 @@ use Rattle.space_pools.specs.declared.pools.Pools.TheInside.{Inside}
 use Rattle.space_pools.specs.PageSlots.{IsPassedOver}
 use Rattle.space_pools.specs.PoolsView.{PoolsView, page_at, pool_at}
 use Rattle.space_pools.specs.Spare.{spare_count}
+use Rattle.space_pools.specs.Unswept.{AreUnswept}
 use Rattle.space_pools.specs.Sound.{IsSoundPools}
 
 -- the view of the pools, by their fields
@@ -19,4 +20,5 @@ pub record ArePools (p : Inside) : Type 0 where
   pub sound : IsSoundPools (view_from p)
   pub room : p.limit ≤ vec_capacity p.pages
   pub spares : p.spare ≡ spare_count (view_from p)
+  pub waiting : AreUnswept (view_from p) p.first_unswept p.unswept
   pub full : AreFullBelow (view_from p) p.cursors

@@ -5,6 +5,7 @@ pub mod Inside
 pub mod PoolsView
 pub mod Free
 pub mod Spare
+pub mod Unswept
 pub mod Sound
 pub mod InsidePools
 pub mod Lending

@@ -6,6 +6,7 @@ ghost use Rattle.space_pools.specs.Links.{IsClearPast};
 ghost use Rattle.space_pools.specs.PoolsView.{page_at, pool_at, IsOnPage, IsOffPages, unswept_at, free_at, used_at, found_at, with_held_page, with_freed_page, with_spare_page};
 ghost use Rattle.space_pools.specs.Free.{IsLeastFree, HasNoFree, TakesLeast, IsLowestFreeSlot, AreFull, TakesFreeSlot};
 ghost use Rattle.space_pools.specs.Spare.{spare_count, IsSpareAt, HasNoSpare, IsLeastSpare, IsNextPage, IsOutOfPages, with_free_page};
+ghost use Rattle.space_pools.specs.Unswept.{unswept_count, HasNoUnswept, IsFirstUnswept, IsNextUnswept};
 ghost use Rattle.space_pools.specs.Sound.{IsSoundPools};
 ghost use Rattle.space_planes.specs.Planes.{bit};
 ghost use Rattle.space_pools.specs.Lending.{LendsSlot};
@@ -36,6 +37,9 @@ pub struct Pools {
     // For each pool the number of a page: allocations pass over each page of the pool below it.
     cursors: [u32; 5],
     spare: u32,
+    // The lowest page that waits for a sweep, or `limit` where none does.
+    first_unswept: u32,
+    unswept: u32,
 }
 
 impl Model for Pools {
@@ -48,6 +52,23 @@ impl Model for Pools {
     ghost view = { view_from };
 
     ghost invariant = { ArePools };
+}
+
+// The lowest page from `from` on that waits for a sweep, or `limit` where none does.
+fn next_unswept(pages: &Vec<PoolPage>, from: u32, limit: u32) -> u32
+    requires few { length pages.now.items ≤ limit }
+    requires from { from ≤ limit }
+    ensures { IsNextUnswept (record { limit = limit; pages = pages.now.items }) from result }
+{
+    let count = pages.len() as u32;
+    let mut page = from;
+    'pages: while page < count {
+        if pages[page as usize].unswept() {
+            return page;
+        }
+        page += 1;
+    }
+    limit
 }
 
 impl Pools {
@@ -64,6 +85,8 @@ impl Pools {
             pages: Vec::with_capacity(alloc, limit as usize)?,
             cursors: [0; 5],
             spare: 0,
+            first_unswept: limit,
+            unswept: 0,
         })
     }
 
@@ -124,6 +147,27 @@ impl Pools {
         ensures { result ≡ unswept_at self.now page }
     {
         self.pages[page as usize].unswept()
+    }
+
+    /// The lowest page that waits for a sweep, or `None` where none does. It isn't searched for: after each
+    /// sweep the pools go on from the page that was swept, so between two verdicts each page is passed once.
+    pub fn first_unswept(&self) -> Option<u32>
+        ensures first { MatchOption result (HasNoUnswept self.now) (IsFirstUnswept self.now) }
+        ensures sound { IsSoundPools self.now }
+    {
+        if self.first_unswept < self.limit {
+            Some(self.first_unswept)
+        } else {
+            None
+        }
+    }
+
+    /// How many pages wait for a sweep.
+    pub fn unswept_pages(&self) -> u32
+        ensures count { result ≡ unswept_count self.now }
+        ensures sound { IsSoundPools self.now }
+    {
+        self.unswept
     }
 
     /// Which slots of a page are free.
@@ -239,6 +283,8 @@ impl Pools {
         requires pool { is_some (pool_at self.old page) ≡ true }
         ensures { self.new ≡ with_held_page self.old page }
     {
+        self.unswept += u32::from(!self.pages[page as usize].unswept());
+        self.first_unswept = page.min(self.first_unswept);
         self.pages[page as usize].hold();
     }
 
@@ -253,24 +299,30 @@ impl Pools {
     {
         match self.page_pool(page) {
             Some(pool) => {
+                self.unswept -= u32::from(self.pages[page as usize].unswept());
                 self.pages[page as usize].set_free(free);
                 self.cursors[pool as usize] = page.min(self.cursors[pool as usize]);
+                self.first_unswept = next_unswept(&self.pages, self.first_unswept, self.limit);
             }
             None => unreachable!(),
         }
     }
 
-    /// Makes a page without a used slot spare. Its memory stays, for a pool that it is given to.
+    /// Makes a page spare, whether it waits for a sweep or not: what its slots held is dropped. Its memory
+    /// stays, for a pool that it is given to.
     pub fn release_page(&mut self, page: u32)
-        requires there { page < length self.old.pages }
-        requires empty { (s : ℕ) → used_at self.old page s ≡ false }
-        ensures { self.new ≡ with_spare_page self.old page }
+        requires { page < length self.old.pages }
+        ensures spare { self.new ≡ with_spare_page self.old page }
+        ensures sound { IsSoundPools self.old }
     {
         if self.page_pool(page).is_none() {
             return;
         }
+        let waited = self.pages[page as usize].unswept();
         self.pages[page as usize].release();
         self.spare += 1;
+        self.unswept -= u32::from(waited);
+        self.first_unswept = next_unswept(&self.pages, self.first_unswept, self.limit);
     }
 
     // The lowest spare page.
@@ -389,6 +441,29 @@ mod tests {
             pools.hold_page(0);
             assert!(rt; pools.take(4) == Some(0x20000));
         }
+        Ok(())
+    }
+
+    #[test]
+    fn the_lowest_page_that_waits_is_known_without_a_search(rt: HostRuntime) -> Result<(), Fail> {
+        let mut pools = Pools::new(rt.alloc(), 4)?;
+        assert!(rt; pools.first_unswept().is_none() && pools.unswept_pages() == 0);
+        for page in 0..3 {
+            assert!(rt; pools.add_page(4) == Ok(page));
+        }
+        for (held, first, count) in [(2, 2, 1), (1, 1, 2), (2, 1, 2)] {
+            if held < pools.page_count() && pools.page_pool(held).is_some() {
+                pools.hold_page(held);
+                assert!(rt; pools.first_unswept() == Some(first) && pools.unswept_pages() == count);
+            }
+        }
+        for (released, first, count) in [(0, Some(1), 2), (1, Some(2), 1), (2, None, 0)] {
+            if released < pools.page_count() {
+                pools.release_page(released);
+                assert!(rt; pools.first_unswept() == first && pools.unswept_pages() == count);
+            }
+        }
+        assert!(rt; pools.spare_pages() == 3);
         Ok(())
     }
 

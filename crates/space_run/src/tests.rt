@@ -4,6 +4,7 @@ mod ends;
 mod generations;
 mod objects;
 mod stack;
+mod sweeping;
 
 use crate::run;
 use space_io::{MemorySink, MemorySource};

@@ -5,6 +5,7 @@ use Rattle.space_model.specs.declared.phase.Phase.TheVariants.{Idle}
 use Rattle.space_model.specs.Counts.{CountIs}
 use Rattle.space_heap.specs.HeapView.{HeapView, is_unswept}
 use Rattle.space_heap.specs.Sweeping.{IsGoneOn, swept}
+pub use Rattle.space_heap.specs.Sweeping.{IsFirstUnswept}
 
 -- the lowest page from this one on that waits
 pub record IsNextUnswept (v : HeapView) (from page : ℕ) : Type 0 where
@@ -12,10 +13,6 @@ pub record IsNextUnswept (v : HeapView) (from page : ℕ) : Type 0 where
   pub within : page < length v.pages
   pub is : is_unswept v page ≡ true
   pub before : (other : ℕ) → from ≤ other → other < page → is_unswept v other ≡ false
-
--- the first of the pages that wait
-abbrev pub IsFirstUnswept : HeapView → ℕ → Type 0
-IsFirstUnswept v page = (others : List ℕ) × (v.unswept ≡ page ∷ others)
 
 -- the phase after the sweep of a page: where no other page waits nothing is under way
 abbrev pub phase_left : List ℕ → Phase → Phase

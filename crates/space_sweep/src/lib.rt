@@ -4,4 +4,4 @@
 mod verdicts;
 
 pub use space_heap::Walk;
-pub use verdicts::{Dead, next_gone, next_unswept, sweep_first, unswept, verdict};
+pub use verdicts::{Dead, first_unswept, next_gone, sweep, unswept, verdict};

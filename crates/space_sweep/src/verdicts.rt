@@ -1,12 +1,11 @@
 // A verdict, what it takes, and the sweep of one page after another.
-ghost use Rattle.std.specs.Prelude.{◌≡◌, ◌↔◌, ◌<◌, ◌≤◌, ◌+◌, ◌^◌, ℕ, true, false, [], length, IfSome, MatchOption, if◌then◌else◌};
+ghost use Rattle.std.specs.Prelude.{◌≡◌, ◌≢◌, ◌↔◌, ◌<◌, ◌+◌, ◌^◌, ℕ, [], length, IfSome, MatchOption};
 ghost use Rattle.space_model.specs.Counts.{CountIs};
-ghost use Rattle.space_heap.specs.HeapView.{is_unswept};
 ghost use Rattle.space_heap.specs.SoundHeap.{IsSoundHeap};
 ghost use Rattle.space_heap.specs.Sweeping.{IsGone, settled, HasNoGone};
 ghost use Rattle.space_heap.specs.Walks.{HasNoGoneFrom, IsWalkFrom, IsFurther};
 ghost use Rattle.space_sweep.specs.Gone.{IsUnmarked, IsNextDead};
-ghost use Rattle.space_sweep.specs.Sweeps.{phase_left, IsFirstUnswept, IsNextUnswept, SweepsFirst};
+ghost use Rattle.space_sweep.specs.Sweeps.{phase_left, IsFirstUnswept, SweepsFirst};
 
 use space_heap::{Heap, Walk};
 use space_model::{Kind, Phase};
@@ -54,64 +53,48 @@ pub fn next_gone(heap: &Heap, walk: &mut Walk) -> Option<Dead>
     }
 }
 
-/// The lowest page from `from` on that waits for a sweep, or `None` where none does.
-pub fn next_unswept(heap: &Heap, from: u32) -> Option<u32>
-    ensures next { MatchOption result ((page : ℕ) → from ≤ page → is_unswept heap.now page ≡ false) (IsNextUnswept heap.now from) }
+/// The lowest page that waits for a sweep, or `None` where none does. It isn't searched for.
+pub fn first_unswept(heap: &Heap) -> Option<u32>
+    ensures first { MatchOption result (heap.now.unswept ≡ []) (IsFirstUnswept heap.now) }
     ensures sound { IsSoundHeap heap.now }
 {
-    // No page below `from` or above the answer is looked at, so a walk over all that wait looks at each page once.
-    let count = heap.page_count();
-    let mut page = from;
-    'pages: while page < count {
-        if heap.page_unswept(page) {
-            return Some(page);
-        }
-        page += 1;
-    }
-    None
+    heap.first_unswept()
 }
 
-// 1 where it is so.
-fn one_if(so: bool) -> u32
-    ensures one { result ≡ (if so then 1 else 0) }
-    ensures few { result ≤ 1 }
-{
-    u32::from(so)
-}
-
-/// How many pages wait for a sweep, for a command that sweeps some of them and tells how many are left.
+/// How many pages wait for a sweep, for a command that sweeps some of them and tells how many are left. They aren't
+/// counted one by one.
 pub fn unswept(heap: &Heap) -> u32
-    ensures { result ≡ length heap.now.unswept }
+    ensures count { result ≡ length heap.now.unswept }
+    ensures sound { IsSoundHeap heap.now }
 {
-    let mut count = 0;
-    'pages: for page in 0..heap.page_count() {
-        count += one_if(heap.page_unswept(page));
-    }
-    count
+    heap.unswept_pages()
 }
 
-// The phase after the sweep of a page. None below `from` waits, so the search for another begins there.
-fn next_phase(heap: &Heap, from: u32) -> Phase
-    requires { (page : ℕ) → page < from → is_unswept heap.now page ≡ false }
+// The phase after the sweep of a page: nothing is under way where no other page waits.
+fn next_phase(heap: &Heap) -> Phase
     ensures { result ≡ phase_left heap.now.unswept heap.now.phase }
 {
-    match next_unswept(heap, from) {
+    match heap.first_unswept() {
         Some(_) => heap.phase(),
         None => Phase::Idle,
     }
 }
 
-/// Sweeps this page, the lowest that waits, and it alone. The answer is how many slots became free. After
-/// the last page nothing is under way. It takes no memory.
-pub fn sweep_first(heap: &mut Heap, page: u32) -> u64
-    requires first { IsFirstUnswept heap.old page }
+/// Sweeps the lowest page that waits, and it alone. The answer is how many slots became free. After the last
+/// page nothing is under way. It takes no memory. Sweeping page by page is CRuby 3.3's; that the lowest comes first is this
+/// project's own.
+pub fn sweep(heap: &mut Heap) -> u64
+    requires some { heap.old.unswept ≢ [] }
     requires few { heap.old.counters.freed < 2 ^ 62 }
-    ensures { SweepsFirst heap.old heap.new result }
+    ensures swept { SweepsFirst heap.old heap.new result }
+    ensures sound { IsSoundHeap heap.old }
 {
-    // Only pages from this one on are looked at, up to the next one that waits.
+    let Some(page) = heap.first_unswept() else {
+        unreachable!()
+    };
     let before = heap.freed();
     heap.sweep_page(page);
-    let phase = next_phase(heap, page);
+    let phase = next_phase(heap);
     heap.set_phase(phase);
     let after = heap.freed();
     after - before
@@ -160,10 +143,9 @@ mod tests {
     }
 
     // How many slots the next sweep freed.
-    #[tactic(auto, using(crate::proofs::FirstPages::first_is))]
     fn sweep_next(heap: &mut Heap) -> Option<u64> {
-        match next_unswept(heap, 0) {
-            Some(page) if heap.freed() < 1 << 40 => Some(sweep_first(heap, page)),
+        match first_unswept(heap) {
+            Some(_) if heap.freed() < 1 << 40 => Some(sweep(heap)),
             _ => None,
         }
     }
@@ -183,12 +165,12 @@ mod tests {
         }
         assert!(rt; next_gone(&heap, &mut walk).is_none() && heap.object_at(0x10000).is_none());
         assert!(rt; heap.lowest_free(0).is_none() && heap.phase() == Phase::Sweeping);
-        assert!(rt; next_unswept(&heap, 0) == Some(0) && unswept(&heap) == 2);
-        assert!(rt; next_unswept(&heap, 1) == Some(1) && next_unswept(&heap, 2).is_none());
+        assert!(rt; first_unswept(&heap) == Some(0) && unswept(&heap) == 2);
         assert!(rt; sweep_next(&mut heap) == Some(2));
         assert!(rt; heap.lowest_free(0) == Some(0x10000) && heap.phase() == Phase::Sweeping);
-        assert!(rt; next_unswept(&heap, 0) == Some(1) && unswept(&heap) == 1);
+        assert!(rt; first_unswept(&heap) == Some(1) && unswept(&heap) == 1);
         assert!(rt; sweep_next(&mut heap) == Some(1) && sweep_next(&mut heap).is_none());
+        assert!(rt; first_unswept(&heap).is_none() && unswept(&heap) == 0);
         assert!(rt; heap.phase() == Phase::Idle && heap.spare_pages() == 1);
         assert!(rt; heap.freed() == 3 && heap.other_verdicts() == 1 && heap.minor_verdicts() == 0);
         Ok(())

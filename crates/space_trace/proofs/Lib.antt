@@ -6,3 +6,4 @@ pub mod HexLemmas
 pub mod PieceLemmas
 pub mod SpellingLemmas
 pub mod ReadingLemmas
+mod StatLemmas

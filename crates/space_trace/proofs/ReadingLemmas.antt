@@ -6,7 +6,7 @@ use Rattle.std.specs.List.{slice_index, onto_first}
 use Rattle.std.specs.Str.{bytes_eq}
 use Rattle.std.specs.Str.Parse.{digits_value}
 use Rattle.space_model.specs.declared.command.Command.{Command}
-use Rattle.space_model.specs.declared.command.Command.TheVariants.{New, Set, DropRoot, Push, Raw, Pop, Store, RawStore, Load, Same, Unprotect, Minor, Gc}
+use Rattle.space_model.specs.declared.command.Command.TheVariants.{New, Set, DropRoot, Push, Raw, Pop, Store, RawStore, Load, Same, Unprotect, Minor, Gc, Sweep, Stat}
 use Rattle.space_model.specs.declared.command.Input.{Input}
 use Rattle.space_model.specs.declared.command.Input.TheVariants.{From, Nil, Small}
 use Rattle.space_model.specs.declared.command.Operand.{Operand}
@@ -76,6 +76,10 @@ abbrev unprotect_of : List (List ℕ) → Option Command
 unprotect_of (object ∷ rest) = Some (Unprotect (operand_of object))
 unprotect_of _ = None
 
+abbrev sweep_of : List (List ℕ) → Option Command
+sweep_of (count ∷ rest) = Some (Sweep (digits_value 10 count))
+sweep_of _ = None
+
 abbrev form_of : List ℕ → List (List ℕ) → Option Command
 form_of name words =
     if bytes_eq name (codes "new") then new_of words
@@ -91,6 +95,8 @@ form_of name words =
     else if bytes_eq name (codes "unprotect") then unprotect_of words
     else if bytes_eq name (codes "minor") then Some Minor
     else if bytes_eq name (codes "gc") then Some Gc
+    else if bytes_eq name (codes "sweep") then sweep_of words
+    else if bytes_eq name (codes "stat") then Some Stat
     else None
 
 abbrev command_of : List (List ℕ) → Option Command
@@ -153,6 +159,8 @@ command_is words (Same left right) (_, _, e, f, (a, _, e1, f1, (b, _, e2, f2, _)
 command_is words (Unprotect object) (_, _, e, f, (a, _, e1, f1, _)) = rw (e, f, e1, operand_is a object f1) refl
 command_is words Minor (_, _, e, f, _) = rw (e, f) refl
 command_is words Gc (_, _, e, f, _) = rw (e, f) refl
+command_is words (Sweep count) (_, _, e, f, (_, _, e1, f1, _)) = rw (e, f, e1, f1.value) refl
+command_is words Stat (_, _, e, f, _) = rw (e, f) refl
 
 -- a blank has no words of a command
 comment_is : (words : List (List ℕ)) → command_of (onto_first 59 words) ≡ None

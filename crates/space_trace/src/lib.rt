@@ -12,6 +12,7 @@ mod operands;
 mod reader;
 mod root_commands;
 mod stack_commands;
+mod stat_line;
 #[cfg(test)]
 mod tests;
 mod words;

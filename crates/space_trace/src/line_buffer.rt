@@ -8,12 +8,12 @@ use crate::line_end::LineEnd;
 use arrayvec::ArrayVec;
 use itoa::Buffer;
 
-/// A line takes no memory: the longest has fewer bytes than this.
+/// A line takes no memory: the longest but for that of `stat` has fewer bytes than this.
 pub type LineBuffer = ArrayVec<u8, 128>;
 
 /// Puts the text at the end.
-pub fn put(line: &mut LineBuffer, text: &[u8])
-    requires { array_vec_len line.old + length text.now ≤ 128 }
+pub fn put<const N: usize>(line: &mut ArrayVec<u8, N>, text: &[u8])
+    requires { array_vec_len line.old + length text.now ≤ N }
     ensures items { line.new.items ≡ line.old.items ++ text.now }
     ensures len { array_vec_len line.new ≡ array_vec_len line.old + length text.now }
 {
@@ -23,8 +23,8 @@ pub fn put(line: &mut LineBuffer, text: &[u8])
 }
 
 /// Puts the number in base 10 at the end.
-pub fn put_decimal(line: &mut LineBuffer, number: u64)
-    requires { array_vec_len line.old ≤ 100 }
+pub fn put_decimal<const N: usize>(line: &mut ArrayVec<u8, N>, number: u64)
+    requires { array_vec_len line.old + 20 ≤ N }
     ensures items { line.new.items ≡ line.old.items ++ decimal number }
     ensures len { array_vec_len line.new ≤ array_vec_len line.old + 20 }
 {

@@ -1,12 +1,12 @@
 // Each form of a line once, with texts that were written by hand.
 use crate::{read_command, write_command, write_event, write_reply};
 use space_io::MemorySink;
-use space_model::{Event, Kind, PAGE_BYTES, Refusal, Reply, Value};
+use space_model::{Event, Kind, PAGE_BYTES, Refusal, Reply, Stat, Value};
 use std::alloc::{AllocError as NoMemory, Global};
 use std::test::Fail;
 
 // The line, and how its command is spelled.
-const FORMS: [(&[u8], &[u8]); 32] = [
+const FORMS: [(&[u8], &[u8]); 36] = [
     (b"new a 3 P M", b"new a 3 P M\n"),
     (b"new a 79 P M", b"new a 79 P M\n"),
     (
@@ -54,12 +54,19 @@ const FORMS: [(&[u8], &[u8]); 32] = [
     (b"unprotect @0", b"unprotect @0\n"),
     (b"minor", b"minor\n"),
     (b"gc", b"gc\n"),
+    (b"sweep 0", b"sweep 0\n"),
+    (b"sweep 007", b"sweep 7\n"),
+    (
+        b"sweep 18446744073709551615",
+        b"sweep 18446744073709551615\n",
+    ),
+    (b"stat\r", b"stat\n"),
 ];
 
 // Lines without a command.
 const BLANK: [&[u8]; 5] = [b"", b"\r", b";", b"; a comment", b";same a b\r"];
 
-const MALFORMED: [&[u8]; 52] = [
+const MALFORMED: [&[u8]; 58] = [
     b" ",
     b" ; a comment",
     b"\r\r",
@@ -112,6 +119,12 @@ const MALFORMED: [&[u8]; 52] = [
     b"minor a",
     b"gc ",
     b"gc a",
+    b"sweep",
+    b"sweep a",
+    b"sweep 1 2",
+    b"sweep 18446744073709551616",
+    b"stat 0",
+    b"Stat",
 ];
 
 const EVENTS: [(Event, &[u8]); 4] = [
@@ -139,7 +152,37 @@ const EVENTS: [(Event, &[u8]); 4] = [
     ),
 ];
 
-const REPLIES: [(Reply, &[u8]); 21] = [
+const COUNTS: Stat = Stat {
+    count: 1,
+    minor_gc_count: 2,
+    major_gc_count: 3,
+    heap_allocated_pages: 4,
+    heap_live_slots: 5,
+    heap_free_slots: 6,
+    total_allocated_objects: 7,
+    total_freed_objects: 8,
+    old_objects: 9,
+    remembered_wb_unprotected_objects: 10,
+    compact_count: 11,
+    total_moved_objects: 12,
+};
+
+const MOST_COUNTS: Stat = Stat {
+    count: u64::MAX,
+    minor_gc_count: u64::MAX,
+    major_gc_count: u64::MAX,
+    heap_allocated_pages: u64::MAX,
+    heap_live_slots: u64::MAX,
+    heap_free_slots: u64::MAX,
+    total_allocated_objects: u64::MAX,
+    total_freed_objects: u64::MAX,
+    old_objects: u64::MAX,
+    remembered_wb_unprotected_objects: u64::MAX,
+    compact_count: u64::MAX,
+    total_moved_objects: u64::MAX,
+};
+
+const REPLIES: [(Reply, &[u8]); 25] = [
     (
         Reply::Made {
             name: 1,
@@ -200,6 +243,22 @@ const REPLIES: [(Reply, &[u8]); 21] = [
         },
         b"ok scanned 18446744073709551615\n",
     ),
+    (Reply::SweepCount { freed: 1, left: 0 }, b"freed 1 left 0\n"),
+    (
+        Reply::SweepCount {
+            freed: 18446744073709551615,
+            left: 4294967295,
+        },
+        b"freed 18446744073709551615 left 4294967295\n",
+    ),
+    (
+        Reply::StatLine { stat: COUNTS },
+        b"stat count=1 minor_gc_count=2 major_gc_count=3 heap_allocated_pages=4 heap_live_slots=5 heap_free_slots=6 total_allocated_objects=7 total_freed_objects=8 old_objects=9 remembered_wb_unprotected_objects=10 compact_count=11 total_moved_objects=12\n",
+    ),
+    (
+        Reply::StatLine { stat: MOST_COUNTS },
+        b"stat count=18446744073709551615 minor_gc_count=18446744073709551615 major_gc_count=18446744073709551615 heap_allocated_pages=18446744073709551615 heap_live_slots=18446744073709551615 heap_free_slots=18446744073709551615 total_allocated_objects=18446744073709551615 total_freed_objects=18446744073709551615 old_objects=18446744073709551615 remembered_wb_unprotected_objects=18446744073709551615 compact_count=18446744073709551615 total_moved_objects=18446744073709551615\n",
+    ),
     (
         Reply::Refused {
             why: Refusal::TooLarge,
@@ -240,7 +299,7 @@ const REPLIES: [(Reply, &[u8]); 21] = [
 
 // A sink that takes three bytes a call.
 fn small_sink(alloc: Global) -> Result<MemorySink, NoMemory> {
-    MemorySink::new(alloc, 300, 3, Vec::new(alloc))
+    MemorySink::new(alloc, 600, 3, Vec::new(alloc))
 }
 
 #[test]
@@ -293,12 +352,12 @@ fn outputs_have_their_texts(rt: HostRuntime) -> Result<(), Fail> {
 fn an_output_is_one_piece(rt: HostRuntime) -> Result<(), Fail> {
     // The second call of the sink would fail.
     for (reply, text) in REPLIES {
-        let mut sink = MemorySink::new(rt.alloc(), 300, 300, [2u64].to_vec(rt.alloc())?)?;
+        let mut sink = MemorySink::new(rt.alloc(), 600, 600, [2u64].to_vec(rt.alloc())?)?;
         assert!(rt; write_reply(&reply, &mut sink).is_ok());
         assert!(rt; sink.bytes() == text);
     }
     for (event, text) in EVENTS {
-        let mut sink = MemorySink::new(rt.alloc(), 300, 300, [2u64].to_vec(rt.alloc())?)?;
+        let mut sink = MemorySink::new(rt.alloc(), 600, 600, [2u64].to_vec(rt.alloc())?)?;
         assert!(rt; write_event(&event, &mut sink).is_ok());
         assert!(rt; sink.bytes() == text);
     }

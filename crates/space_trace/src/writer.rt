@@ -1,5 +1,5 @@
 // Writes the lines of a trace. Each goes to the sink as one piece.
-ghost use Rattle.std.specs.Prelude.{◌≡◌, ◌≤◌, ◌<◌, ◌+◌, [], ◌∷◌, ◌++◌, length, OnOk, OnErr};
+ghost use Rattle.std.specs.Prelude.{◌≡◌, ◌≤◌, ◌<◌, ◌+◌, [], ◌∷◌, ◌++◌, length, false, OnOk, OnErr};
 ghost use Rattle.arrayvec.specs.ArrayVec.{array_vec_len};
 ghost use Rattle.std.specs.Io.KnownBytes.{Appends};
 ghost use Rattle.space_io.specs.Causes.{HasCause};
@@ -7,16 +7,19 @@ ghost use Rattle.space_io.specs.Sinks.{AppendsPrefix, AppendsPart};
 ghost use Rattle.space_model.specs.CommandTexts.{command_pieces};
 ghost use Rattle.space_model.specs.Spelling.{text_of_pieces, IsSpelled};
 ghost use Rattle.space_model.specs.Texts.{kind_text, event_pieces, value_pieces, refusal_text, truth_text, named_pieces, reply_pieces, malformed_pieces, line_of_pieces};
+ghost use Rattle.space_trace.specs.StatReplies.{is_stat};
 
-use crate::collection_commands::{put_gc, put_minor};
+use crate::collection_commands::{put_gc, put_minor, put_stat_command, put_sweep};
 use crate::line_buffer::LineBuffer;
 use crate::line_end::LineEnd;
 use crate::new_command::put_new;
 use crate::object_commands::{put_raw_store, put_same, put_store, put_unprotect};
 use crate::root_commands::{put_drop, put_load, put_set};
 use crate::stack_commands::{put_pop, put_push, put_raw};
+use crate::stat_line::{StatBuffer, put_stat};
+use arrayvec::ArrayVec;
 use space_io::{Sink, WriteFault, write_all};
-use space_model::{Command, Event, Kind, Refusal, Reply, Value};
+use space_model::{Command, Event, Kind, Refusal, Reply, Stat, Value};
 
 const LF: u8 = b'\n';
 
@@ -58,12 +61,17 @@ fn put_command(line: &mut LineBuffer, command: Command)
         Command::Unprotect { object } => put_unprotect(line, object),
         Command::Minor => put_minor(line),
         Command::Gc => put_gc(line),
+        Command::Sweep { count } => put_sweep(line, count),
+        Command::Stat => put_stat_command(line),
     }
 }
 
-// Writes the command's line and its LF, as one piece.
-fn write_line<K: Sink>(line: &mut LineBuffer, sink: &mut K) -> Result<(), WriteFault>
-    requires { array_vec_len line.old < 128 }
+// Writes the line of a command or of the counts, and its LF, as one piece.
+fn write_line<K: Sink, const N: usize>(
+    line: &mut ArrayVec<u8, N>,
+    sink: &mut K,
+) -> Result<(), WriteFault>
+    requires { array_vec_len line.old < N }
     ensures bytes { OnOk result (Appends (K.written sink.old) (K.written sink.new) (line.old.items ++ 10 ∷ [])) }
     ensures prefix { AppendsPrefix (K.written sink.old) (K.written sink.new) (line.old.items ++ 10 ∷ []) }
     ensures part { OnErr result (AppendsPart (K.written sink.old) (K.written sink.new) (line.old.items ++ 10 ∷ [])) }
@@ -184,35 +192,43 @@ fn truth_bytes(truth: bool) -> &'static [u8]
     if truth { b"true" } else { b"false" }
 }
 
-// Puts the reply's line before its LF.
-fn put_reply(line: &mut LineEnd, reply: Reply)
-    requires { line.old ≡ 10 ∷ [] }
-    ensures line { line.new ≡ line_of_pieces (reply_pieces reply) }
-    ensures spelled { IsSpelled (reply_pieces reply) }
+// Puts the reply's line before its LF, its last piece first. That of the counts has a buffer of its own.
+fn put_reply(line: &mut LineEnd, reply: &Reply)
+    requires empty { line.old ≡ 10 ∷ [] }
+    requires short { is_stat reply.now ≡ false }
+    ensures line { line.new ≡ line_of_pieces (reply_pieces reply.now) }
+    ensures spelled { IsSpelled (reply_pieces reply.now) }
 {
     match reply {
         Reply::Made { name, address } => {
-            line.put_hex(address);
+            line.put_hex(*address);
             line.put(b" ");
-            line.put_decimal(name);
+            line.put_decimal(*name);
             line.put(b"#");
         }
         Reply::Full => line.put(b"full"),
         Reply::NoMemory => line.put(b"no memory"),
         Reply::Done => line.put(b"ok"),
         Reply::Pushed { word, names } => {
-            put_named(line, names);
+            put_named(line, *names);
             line.put(b" names ");
-            line.put_hex(word);
+            line.put_hex(*word);
             line.put(b"word ");
         }
-        Reply::Read { value } => put_value(line, value),
-        Reply::Truth { yes } => line.put(truth_bytes(yes)),
+        Reply::Read { value } => put_value(line, *value),
+        Reply::Truth { yes } => line.put(truth_bytes(*yes)),
         Reply::Scanned { count } => {
-            line.put_decimal(count);
+            line.put_decimal(*count);
             line.put(b"ok scanned ");
         }
-        Reply::Refused { why } => line.put(refusal_bytes(why)),
+        Reply::SweepCount { freed, left } => {
+            line.put_decimal(u64::from(*left));
+            line.put(b" left ");
+            line.put_decimal(*freed);
+            line.put(b"freed ");
+        }
+        Reply::StatLine { .. } => unreachable!(),
+        Reply::Refused { why } => line.put(refusal_bytes(*why)),
     }
 }
 
@@ -239,6 +255,33 @@ pub fn write_event<K: Sink>(event: &Event, sink: &mut K) -> Result<(), WriteFaul
     write_all(sink, line.bytes())
 }
 
+// Writes the line of the counts.
+fn write_stat<K: Sink>(stat: &Stat, sink: &mut K) -> Result<(), WriteFault>
+    ensures bytes { OnOk result (Appends (K.written sink.old) (K.written sink.new) (line_of_pieces (reply_pieces (Reply.StatLine stat.now)))) }
+    ensures prefix { AppendsPrefix (K.written sink.old) (K.written sink.new) (line_of_pieces (reply_pieces (Reply.StatLine stat.now))) }
+    ensures part { OnErr result (AppendsPart (K.written sink.old) (K.written sink.new) (line_of_pieces (reply_pieces (Reply.StatLine stat.now)))) }
+    ensures cause { HasCause (K.faults sink.old) (K.faults sink.new) result }
+    ensures spelled { IsSpelled (reply_pieces (Reply.StatLine stat.now)) }
+{
+    let mut line = StatBuffer::new();
+    put_stat(&mut line, stat);
+    write_line(&mut line, sink)
+}
+
+// Writes the line of a reply that doesn't tell the counts.
+fn write_short<K: Sink>(reply: &Reply, sink: &mut K) -> Result<(), WriteFault>
+    requires { is_stat reply.now ≡ false }
+    ensures bytes { OnOk result (Appends (K.written sink.old) (K.written sink.new) (line_of_pieces (reply_pieces reply.now))) }
+    ensures prefix { AppendsPrefix (K.written sink.old) (K.written sink.new) (line_of_pieces (reply_pieces reply.now)) }
+    ensures part { OnErr result (AppendsPart (K.written sink.old) (K.written sink.new) (line_of_pieces (reply_pieces reply.now))) }
+    ensures cause { HasCause (K.faults sink.old) (K.faults sink.new) result }
+    ensures spelled { IsSpelled (reply_pieces reply.now) }
+{
+    let mut line = line_end();
+    put_reply(&mut line, reply);
+    write_all(sink, line.bytes())
+}
+
 /// Writes the line of the reply. At an `Err` only a prefix of it was written, maybe none.
 pub fn write_reply<K: Sink>(reply: &Reply, sink: &mut K) -> Result<(), WriteFault>
     ensures bytes { OnOk result (Appends (K.written sink.old) (K.written sink.new) (line_of_pieces (reply_pieces reply.now))) }
@@ -247,9 +290,10 @@ pub fn write_reply<K: Sink>(reply: &Reply, sink: &mut K) -> Result<(), WriteFaul
     ensures cause { HasCause (K.faults sink.old) (K.faults sink.new) result }
     ensures spelled { IsSpelled (reply_pieces reply.now) }
 {
-    let mut line = line_end();
-    put_reply(&mut line, *reply);
-    write_all(sink, line.bytes())
+    match reply {
+        Reply::StatLine { stat } => write_stat(stat, sink),
+        _ => write_short(reply, sink),
+    }
 }
 
 /// Writes that the line with this number is malformed or too long. At an `Err` only a prefix of it was written, maybe none.

@@ -3,10 +3,9 @@ ghost use Rattle.std.specs.Prelude.{◌≡◌, ◌<◌, ◌+◌, ◌^◌, length
 ghost use Rattle.space_io.specs.Causes.{HasCause};
 ghost use Rattle.space_model.specs.declared.command.Command.{Command as TheCommand};
 ghost use Rattle.space_roots.specs.WordRoots.{root_words};
-ghost use Rattle.space_collector.specs.Quiescent.{CanCollect};
 ghost use Rattle.space_engine.specs.Ticks.{RisesByFewer};
 ghost use Rattle.space_engine.specs.Answered.{IsAnswered, IsCutOff};
-ghost use Rattle.space_engine.specs.Turns.{CanAnswer, IsOneTurn};
+ghost use Rattle.space_engine.specs.Turns.{CanAnswer, CanCompleteAndCollect, IsOneTurn};
 ghost use Rattle.space_engine.specs.Views.{with_heap};
 ghost use Rattle.space_engine.specs.HeapCollections.{IsCollecting, IsToldCollection, IsCutCollection, IsOneVerdict};
 
@@ -16,15 +15,15 @@ use space_io::{Sink, WriteFault};
 use space_model::{Kind, Ledger, Reply, Steps};
 
 impl Engine {
-    /// A collection by this kind: what its marking leaves unmarked is gone, its lines are written, and every page is swept,
-    /// also after a failed write.
+    /// A collection by this kind: what is under way is completed, what the marking leaves unmarked is gone, and its lines are
+    /// written. The gone wait for a sweep.
     pub fn collect_and_tell<K: Sink, L: Ledger>(
         &mut self,
         kind: Kind,
         sink: &mut K,
         steps: &mut Steps<L>,
     ) -> Result<Collected, WriteFault>
-        requires able { CanCollect self.old.heap }
+        requires able { CanCompleteAndCollect self.old.heap }
         requires steps { steps.old < 2 ^ 62 }
         ensures done { IfOk result (λ collected. IsToldCollection self.old.heap self.new.heap kind (root_words self.old.roots) self.old.stack collected.scans collected.gone (K.written sink.old) (K.written sink.new)) }
         ensures fault { OnErr result (IsCutCollection self.old.heap self.new.heap kind (root_words self.old.roots) self.old.stack (K.written sink.old) (K.written sink.new)) }
@@ -36,10 +35,9 @@ impl Engine {
         ensures ticked { IfOk result (λ collected. steps.new ≡ steps.old + collected.scans) }
         ensures steps { RisesByFewer steps.old steps.new }
     {
-        let collected = collect(&mut self.heap, &self.roots, &self.stack, kind, steps);
-        let told = tell_gone(&self.heap, kind, collected.gone, sink);
         sweep_all(&mut self.heap);
-        told?;
+        let collected = collect(&mut self.heap, &self.roots, &self.stack, kind, steps);
+        tell_gone(&self.heap, kind, collected.gone, sink)?;
         Ok(collected)
     }
 

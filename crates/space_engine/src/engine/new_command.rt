@@ -1,19 +1,20 @@
-// The command that makes objects: a place for its root, an allocation, and where there is no room a whole collection and
-// one more allocation.
-ghost use Rattle.std.specs.Prelude.{◌≡◌, ◌≤◌, ◌<◌, ◌^◌, length, if◌then◌else◌, None, Err, IfOk, OnOk, OnErr, IsSome};
+// The command that makes objects: a place for its root, an allocation, for which pages that wait are swept, and where there
+// is no room a whole collection and one more allocation.
+ghost use Rattle.std.specs.Prelude.{◌≡◌, ◌≤◌, ◌<◌, ◌+◌, ◌^◌, length, if◌then◌else◌, None, Err, IfOk, OnOk, OnErr, IsSome};
 ghost use Rattle.space_io.specs.Causes.{HasCause};
 ghost use Rattle.space_model.specs.declared.command.Command.TheVariants.{New};
 ghost use Rattle.space_model.specs.Layout.{pool_for as pool_of_fields};
 ghost use Rattle.space_heap.specs.Allocations.{LacksRoom, NeedsNewPage};
-ghost use Rattle.space_heap.specs.SoundHeap.{IsSoundHeap};
 ghost use Rattle.space_roots.specs.WordRoots.{root_word};
 ghost use Rattle.space_engine.specs.Ticks.{RisesByFewer};
-ghost use Rattle.space_engine.specs.Allocations.{IsLastReply, IsReserved, IsRootedAllocation};
+ghost use Rattle.space_collector.specs.Quiescent.{most_slots, IsQuiescent};
+ghost use Rattle.space_engine.specs.Allocations.{IsLastReply, IsReserved, IsReservedAndSwept, IsRootedAllocation, IsSwept};
 ghost use Rattle.space_engine.specs.Answered.{IsAnswered, IsCutOff};
-ghost use Rattle.space_engine.specs.Turns.{CanAnswer, IsOneTurn};
+ghost use Rattle.space_engine.specs.Turns.{CanAnswer, CanCompleteAndCollect, IsOneTurn, IsWork};
 ghost use Rattle.space_engine.specs.Views.{View, with_root_dropped, with_root_written};
 
 use super::{Answer, Engine, silent};
+use space_collector::sweep_until_free;
 use space_heap::{Made, PageFault};
 use space_io::{Sink, WriteFault};
 use space_model::{
@@ -51,7 +52,8 @@ impl Engine {
         }
     }
 
-    // Allocates an object, and the root, whose place was made, holds it. An `Err` changes nothing.
+    // Allocates an object, for which pages that wait are swept where no address is free, and the root, whose place was made,
+    // holds it. An `Err` leaves the sweeps.
     fn allocate_for_root(
         &mut self,
         root: &Ident,
@@ -62,12 +64,15 @@ impl Engine {
         requires few { fields ≤ MOST_FIELDS }
         requires names { self.old.heap.counters.born < 2 ^ 62 }
         requires there { IsSome (root_word self.old.roots root.now) }
+        requires quiescent { IsQuiescent self.old.heap }
+        requires freed { self.old.heap.counters.freed < 2 ^ 61 }
         ensures allocated { IfOk result (λ made. IsRootedAllocation self.old self.new root.now fields guard style made.name made.address) }
-        ensures at_limit { result ≡ Err PageFault.AtLimit → LacksRoom self.old.heap (pool_of_fields fields) }
-        ensures no_memory { result ≡ Err PageFault.NoMemory → NeedsNewPage self.old.heap (pool_of_fields fields) }
-        ensures failed { OnErr result (self.new ≡ self.old) }
-        ensures sound { IsSoundHeap self.old.heap }
+        ensures at_limit { result ≡ Err PageFault.AtLimit → LacksRoom self.new.heap (pool_of_fields fields) }
+        ensures no_memory { result ≡ Err PageFault.NoMemory → NeedsNewPage self.new.heap (pool_of_fields fields) }
+        ensures failed { OnErr result (IsSwept self.old self.new (pool_of_fields fields)) }
+        ensures work { IsWork 1 self.old.heap self.new.heap }
     {
+        sweep_until_free(&mut self.heap, fields);
         let made = self.heap.allocate(fields, guard, style)?;
         self.hold(root, made.address);
         Ok(made)
@@ -86,9 +91,11 @@ impl Engine {
         requires few { fields ≤ MOST_FIELDS }
         requires names { self.old.heap.counters.born < 2 ^ 62 }
         requires there { IsSome (root_word self.old.roots root.now) }
+        requires quiescent { IsQuiescent self.old.heap }
+        requires freed { self.old.heap.counters.freed < 2 ^ 61 }
         requires limit { length self.old.heap.pages ≡ self.old.heap.limit }
         ensures last { IsLastReply self.old self.new root.now is_new fields guard style result }
-        ensures sound { IsSoundHeap self.old.heap }
+        ensures work { IsWork 1 self.old.heap self.new.heap }
     {
         match self.allocate_for_root(root, fields, guard, style) {
             Ok(made) => Reply::Made {
@@ -103,8 +110,8 @@ impl Engine {
         }
     }
 
-    // Goes on where there was no room: a whole collection, and one more allocation. Until then the root, whose place was
-    // made, holds what it held before. `v` is the space before that.
+    // Goes on where there was no room, though all pages were swept: a whole collection, and one more allocation. Until then the
+    // root, whose place was made, holds what it held before. `v` is the space before that.
     fn create_at_limit<K: Sink, L: Ledger>(
         &mut self,
         root: &Ident,
@@ -118,13 +125,14 @@ impl Engine {
         requires few { fields ≤ MOST_FIELDS }
         requires there { IsSome (root_word self.old.roots root.now) }
         requires full { LacksRoom self.old.heap (pool_of_fields fields) }
-        requires sound { IsSoundHeap self.old.heap }
-        requires able { CanAnswer self.old.heap }
+        requires names { self.old.heap.counters.born < 2 ^ 62 }
+        requires able { CanCompleteAndCollect self.old.heap }
+        requires freed { self.old.heap.counters.freed < 2 ^ 60 + most_slots }
         requires steps { steps.old < 2 ^ 62 }
-        ensures done { (v : View) → IsReserved v self.old root.now is_new → IfOk result (λ answer. IsAnswered v self.new (New root.now fields guard style) answer.reply answer.gone (K.written sink.old) (K.written sink.new) steps.old steps.new) }
-        ensures fault { (v : View) → IsReserved v self.old root.now is_new → OnErr result (IsCutOff v self.new (New root.now fields guard style) (K.written sink.old) (K.written sink.new)) }
+        ensures done { (v : View) → IsReservedAndSwept v self.old root.now is_new (pool_of_fields fields) → IfOk result (λ answer. IsAnswered v self.new (New root.now fields guard style) answer.reply answer.gone (K.written sink.old) (K.written sink.new) steps.old steps.new) }
+        ensures fault { (v : View) → IsReservedAndSwept v self.old root.now is_new (pool_of_fields fields) → OnErr result (IsCutOff v self.new (New root.now fields guard style) (K.written sink.old) (K.written sink.new)) }
         ensures cause { HasCause (K.faults sink.old) (K.faults sink.new) result }
-        ensures turn { IsOneTurn self.old.heap self.new.heap }
+        ensures work { IsWork 2 self.old.heap self.new.heap }
         ensures steps { RisesByFewer steps.old steps.new }
     {
         let collected = self.collect_and_tell(Kind::Full, sink, steps);

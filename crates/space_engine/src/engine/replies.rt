@@ -5,7 +5,7 @@ ghost use Rattle.space_model.specs.State.{State};
 ghost use Rattle.space_engine.specs.Stands.{Holds};
 ghost use Rattle.space_engine.specs.Steps.{Answers, IsQuiet};
 ghost use Rattle.space_engine.specs.Ticks.{IsReplyTicked};
-ghost use Rattle.space_engine.specs.Turns.{IsOneTurn};
+ghost use Rattle.space_engine.specs.Turns.{CanAnswer, IsOneTurn};
 
 use super::Engine;
 use space_model::{Command, Ledger, Reply, Steps};
@@ -15,6 +15,7 @@ impl Engine {
     pub fn reply<L: Ledger>(&mut self, command: &Command, steps: &mut Steps<L>) -> Reply
         requires quiet { IsQuiet command.now }
         requires given { IsGiven command.now }
+        requires able { CanAnswer self.old.heap }
         requires steps { steps.old < 2 ^ 62 }
         ensures answers { (s : State) → Holds self.old s → Answers s self.new command.now result }
         ensures ticked { IsReplyTicked command.now result steps.old steps.new }
@@ -43,6 +44,8 @@ impl Engine {
             } => self.load(root, object, *index, steps),
             Command::Same { left, right } => self.compare(left, right),
             Command::Unprotect { object } => self.unprotect(object),
+            Command::Sweep { count } => self.sweep(*count),
+            Command::Stat => self.stat(),
             Command::New { .. } | Command::Minor | Command::Gc => unreachable!(),
         }
     }

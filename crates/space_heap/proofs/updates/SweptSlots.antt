@@ -4,19 +4,19 @@ use Rattle.std.specs.Prelude.{is_some, is_none, count_by}
 use Rattle.std.specs.List.{range_with_len, filter, list_all}
 use Rattle.std.proofs.lemmas.Bool.{cases_Bool, cases_eq, cases_lt, cond-true, cond-false}
 use Rattle.std.proofs.lemmas.Bool.Decides.{nat_tests}
-use Rattle.std.proofs.lemmas.List.{get_or-set_same, get_or-set_other, get_or_past, length-set, length-replicate, set-set}
+use Rattle.std.proofs.lemmas.List.{get_or-set_same, get_or-set_other, get_or_past, get_or-map, length-set, length-map, length-replicate}
 use Rattle.std.proofs.lemmas.List.FromFn.{fill_by_all}
 use Rattle.std.proofs.lemmas.List.Folds.{list_all_at}
 use Rattle.space_planes.specs.Planes.{bit, count_set}
 use Rattle.space_planes.proofs.Bits.{bit-replicate, bit-set_in_first_only, length-set_in_first_only}
 use Rattle.space_pools.specs.PageSlots.{PageSlots, spare_page, found_in, freed_in}
-use Rattle.space_pools.specs.PoolsView.{PoolsView, page_at, unswept_at, free_at, used_at, with_page, with_freed_page, with_spare_page}
+use Rattle.space_pools.specs.PoolsView.{PoolsView, page_at, unswept_at, free_at, with_page, with_freed_page, with_spare_page}
 use Rattle.space_pools.proofs.PoolLaws.{page_at-with_page_same, page_at-with_page_other, used_from_found, not_free_from_used}
 use Rattle.space_pools.proofs.Freed.{pool_freed, swept_freed, length-freed_in, found_in-freed_in}
 use Rattle.space_heap.specs.declared.marks.Marks.{Marks}
 use Rattle.space_heap.specs.Slots.{SlotView, Free, Object, is_free}
 use Rattle.space_heap.specs.HeapView.{PageView, no_page}
-use Rattle.space_heap.specs.planes.MarkPlanes.{marks_at, clear_marks, AreWide, slot_from, used_from, traits_from, object_from}
+use Rattle.space_heap.specs.planes.MarkPlanes.{marks_at, clear_marks, AreWide, slot_from, used_from, traits_from, object_from, is_present}
 use Rattle.space_heap.specs.Sweeping.{has_gone, swept_slot, page_with_slots, swept_page, swept}
 use Rattle.space_heap.specs.planes.SweptPlanes.{swept_marks, SweepsPage}
 use Rattle.space_heap.specs.Inside.{slot_in, page_from, page_in, pages_from, unswept_in, Rest, view_with, FitsSlot, AreMarksOf, AreAllMarks}
@@ -227,6 +227,48 @@ all_free : (xs : List SlotView) → ((i : ℕ) → is_free (get_or xs i Free) �
 all_free [] h = refl
 all_free (x ∷ xs) h = let first : is_free x ≡ true = h zero in let rest = all_free xs (λ i. h (suc i)) in cc
 
+-- a page whose objects are all gone, where no slot was left by one, is spare after its sweep
+module _ (v : PoolsView) (ms : List Marks) (page : ℕ) (here : page < length v.pages) (all : AreAllMarks v ms)
+    (none : (s : ℕ) → (is_present (marks_at ms page) s || bit (marks_at ms page).moved s) ≡ false) where
+  abbrev was : PageSlots
+  was = page_at v page
+
+  abbrev its_marks : Marks
+  its_marks = marks_at ms page
+
+  slot_emptied : (s : ℕ) → is_free (swept_slot (slot_in was its_marks s)) ≡ true
+  slot_emptied s =
+      let its = all.of_page page in
+      let found : Option (List ℕ) = left (found_in was s) its_marks s in
+      let fits = fits_swept_planes (found_in was s) its_marks s (length was.slots) its.wide (its.each s) in
+      ap is_free (sym (slot_swept_planes (found_in was s) its_marks s (its.each s)))
+      ∙ free_from found (swept_marks its_marks) s
+      ∙ nothing found (bit (swept_marks its_marks).object s) (bit its_marks.moved s) fits.object
+      (ap (λ b. b || bit its_marks.moved s) (object_bit its_marks s (length was.slots) its.wide) ∙ none s)
+    where
+      nothing : (found : Option (List ℕ)) (object moved : Bool) → object ≡ (is_some found && not moved) → (object || moved) ≡ false → is_none found ≡ true
+      nothing None object moved f e = refl
+      nothing (Some words) true moved f e = cc
+      nothing (Some words) false true f e = cc
+      nothing (Some words) false false f e = cc
+
+  emptied : swept_page (page_from was its_marks) ≡ no_page
+  emptied =
+      let slots : List SlotView = (page_from was its_marks).slots in
+      page_empty was.pool (map swept_slot slots) (all_free (map swept_slot slots) (λ i. ⊎_elim
+      (λ within. ap is_free (get_or-map swept_slot slots i Free Free within ∙ ap swept_slot (slot_read was its_marks i)) ∙ slot_emptied i)
+      (λ past. ap is_free (get_or_past (map swept_slot slots) i Free (let l = length-map slots swept_slot in omega arith)))
+      (cases_lt i (length slots))))
+
+  pub swept_empty : SweepsPage v (with_spare_page v page) ms (set ms page (clear_marks 0)) page
+  swept_empty = record {
+    limit = refl;
+    count = length-set v.pages page spare_page;
+    pages = pages_set v ms page spare_page (clear_marks 0) here all ∙ ap (set (pages_from v ms) page) (sym emptied);
+    unswept = unswept_set v ms page spare_page (clear_marks 0) here all refl;
+    all = all_set v ms page spare_page (clear_marks 0) here all spare_marks;
+  }
+
 module _ (v : PoolsView) (ms : List Marks) (page : ℕ) (free : List Bool) (here : page < length v.pages) (all : AreAllMarks v ms)
     (bits : (s : ℕ) → bit free s ≡ (free_at v page s || bit (marks_at ms page).gone s)) where
   abbrev p : PageSlots
@@ -272,15 +314,6 @@ module _ (v : PoolsView) (ms : List Marks) (page : ℕ) (free : List Bool) (here
       ∙ ap (λ k. map swept_slot (map (slot_in p m) (range_with_len 0 k))) (length-freed_in p free)
 
   -- a slot of the page, by its planes
-  free_here : (s : ℕ) → (bit n.object s || bit n.moved s) ≡ false → is_none (found_in q s) ≡ true
-  free_here s e = nothing (found_in q s) (bit n.object s) (bit n.moved s) (marks_freed.each s).object e
-    where
-      nothing : (found : Option (List ℕ)) (object moved : Bool) → object ≡ (is_some found && not moved) → (object || moved) ≡ false → is_none found ≡ true
-      nothing None object moved f e = refl
-      nothing (Some words) true moved f e = cc
-      nothing (Some words) false true f e = cc
-      nothing (Some words) false false f e = cc
-
   used_here : (s : ℕ) → (bit n.object s || bit n.moved s) ≡ true → is_none (found_in q s) ≡ false
   used_here s e = something (found_in q s) (bit n.object s) (bit n.moved s) (marks_freed.each s).object (marks_freed.each s).moved e
     where
@@ -298,11 +331,8 @@ module _ (v : PoolsView) (ms : List Marks) (page : ℕ) (free : List Bool) (here
       list_all_at is_free slots s Free (⊎_elim (λ within. within) (λ past. absurd (true≢false (sym (ap is_free (get_or_past slots s Free past)) ∙ its)))
       (cases_lt s (length slots))) its
 
-  none_used : ((s : ℕ) → (bit n.object s || bit n.moved s) ≡ false) → list_all is_free (page_from q n).slots ≡ true
-  none_used e = all_free (page_from q n).slots (λ s. ap is_free (slot_read q n s) ∙ free_from (found_in q s) n s ∙ free_here s (e s))
-
   -- a page that isn't spare after its sweep
-  pub swept_full : (s : ℕ) → (bit n.object s || bit n.moved s) ≡ true → SweepsPage v (with_freed_page v page free) ms (set ms page n) page
+  pub swept_full : (s : ℕ) → (is_present m s || bit m.moved s) ≡ true → SweepsPage v (with_freed_page v page free) ms (set ms page n) page
   swept_full s e = record {
     limit = refl;
     count = length-set v.pages page q;
@@ -314,34 +344,8 @@ module _ (v : PoolsView) (ms : List Marks) (page : ℕ) (free : List Bool) (here
       full : swept_page (page_from p m) ≡ page_from q n
       full =
           ap (page_with_slots p.pool) (sym slots_freed)
-          ∙ page_full p.pool (page_from q n).slots (some_used s e)
+          ∙ page_full p.pool (page_from q n).slots (some_used s (ap (λ b. b || bit m.moved s) (object_bit m s (length p.slots) its.wide) ∙ e))
           ∙ (λ i. record { pool = sym (pool_freed p free) i; slots = (page_from q n).slots })
-
-  -- and one that is
-  pub swept_empty : ((s : ℕ) → (bit n.object s || bit n.moved s) ≡ false)
-      → SweepsPage v (with_spare_page (with_freed_page v page free) page) ms (set (set ms page n) page (clear_marks 0)) page
-  swept_empty e =
-      let w : PoolsView = with_page v page spare_page in
-      let once : SweepsPage v w ms (set ms page (clear_marks 0)) page = record {
-        limit = refl;
-        count = length-set v.pages page spare_page;
-        pages = pages_set v ms page spare_page (clear_marks 0) here all ∙ ap (set (pages_from v ms) page) (sym empty);
-        unswept = unswept_set v ms page spare_page (clear_marks 0) here all refl;
-        all = all_set v ms page spare_page (clear_marks 0) here all spare_marks;
-      } in
-      let pools : w ≡ with_spare_page (with_freed_page v page free) page = λ i. record { limit = v.limit; pages = sym (set-set v.pages page q spare_page) i } in
-      subst (λ u. SweepsPage v u ms (set (set ms page n) page (clear_marks 0)) page) pools
-      (subst (λ ns. SweepsPage v w ms ns page) (sym (set-set ms page n (clear_marks 0))) once)
-    where
-      empty : swept_page (page_from p m) ≡ no_page
-      empty = ap (page_with_slots p.pool) (sym slots_freed) ∙ page_empty p.pool (page_from q n).slots (none_used e)
-
-  pub none_left_used : ((s : ℕ) → (bit n.object s || bit n.moved s) ≡ false) → (s : ℕ) → used_at (with_freed_page v page free) page s ≡ false
-  none_left_used e s = ap (λ x. is_some (found_in x s)) (page_at-with_page_same v page q here) ∙ nothing (found_in q s) (free_here s (e s))
-    where
-      nothing : (found : Option (List ℕ)) → is_none found ≡ true → is_some found ≡ false
-      nothing None e = refl
-      nothing (Some words) e = sym e
 
 -- the view after the sweep of a page
 pub swept_view : (v w : PoolsView) (ms ns : List Marks) (page : ℕ) (rest : Rest) (gone : ℕ) → SweepsPage v w ms ns page

@@ -22,7 +22,8 @@ impl Heap {
     /// but for those that wait for a sweep.
     pub fn lowest_free(&self, pool: u8) -> Option<u64>
         requires { pool < POOLS }
-        ensures { MatchOption result (HasNoFree self.now pool) (IsLeastFree self.now pool) }
+        ensures lowest { MatchOption result (HasNoFree self.now pool) (IsLeastFree self.now pool) }
+        ensures sound { IsSoundHeap self.now }
     {
         self.pools.lowest_free(pool)
     }

@@ -1,9 +1,9 @@
 // The calls of a verdict and of a sweep.
-ghost use Rattle.std.specs.Prelude.{◌≡◌, ◌<◌, ◌^◌, ℕ, true, false, [], length, if◌then◌else◌};
+ghost use Rattle.std.specs.Prelude.{◌≡◌, ◌<◌, ◌^◌, ℕ, true, false, [], length, MatchOption, if◌then◌else◌};
 ghost use Rattle.space_model.specs.Counts.{CountIs};
 ghost use Rattle.space_heap.specs.HeapView.{is_unswept};
 ghost use Rattle.space_heap.specs.SoundHeap.{IsSoundHeap};
-ghost use Rattle.space_heap.specs.Sweeping.{settled, minors_after, others_after, swept, IsGone, HasNoGone};
+ghost use Rattle.space_heap.specs.Sweeping.{settled, minors_after, others_after, swept, IsFirstUnswept, IsGone, HasNoGone};
 
 use crate::heap::Heap;
 use crate::marks::marks_of;
@@ -70,6 +70,22 @@ impl Heap {
         ensures { result ≡ is_unswept self.now page }
     {
         self.pools.page_unswept(page)
+    }
+
+    /// The lowest page that waits for a sweep, or `None` where none does. It isn't searched for.
+    pub fn first_unswept(&self) -> Option<u32>
+        ensures first { MatchOption result (self.now.unswept ≡ []) (IsFirstUnswept self.now) }
+        ensures sound { IsSoundHeap self.now }
+    {
+        self.pools.first_unswept()
+    }
+
+    /// How many pages wait for a sweep.
+    pub fn unswept_pages(&self) -> u32
+        ensures count { result ≡ length self.now.unswept }
+        ensures sound { IsSoundHeap self.now }
+    {
+        self.pools.unswept_pages()
     }
 
     /// Changes the phase.

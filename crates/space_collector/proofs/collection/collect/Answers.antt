@@ -1,5 +1,4 @@
-use Rattle.std.proofs.Common.{sym, ap, ◌∙◌, subst}
-use Rattle.space_heap.specs.HeapView.{HeapView}
+use Rattle.std.proofs.Common.{sym, ◌∙◌, subst}
 use Rattle.space_heap.specs.SoundHeap.{IsSoundHeap}
 use Rattle.space_collector.specs.Quiescent.{IsQuiescent}
 use Rattle.space_collector.proofs.GoneLists.{gone_count}

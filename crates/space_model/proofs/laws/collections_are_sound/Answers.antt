@@ -1,6 +1,8 @@
+use Rattle.std.proofs.Common.{length, min, refl}
+use Rattle.std.proofs.Math.Nat.{min-le_right}
 use Rattle.space_model.proofs.CollectionsKept.{Sound-start, Sound-took, Sound-swept, Sound-sweeps}
-use Rattle.space_model.proofs.CorpseNames.{freed_pages, swept_pages, SweepAll-there}
-use Rattle.space_model.proofs.SweptLaws.{SweepAll-swept}
+use Rattle.space_model.proofs.CorpseNames.{freed_pages, swept_pages, SweepAll-there, Sweeps-some}
+use Rattle.space_model.proofs.SweptLaws.{SweepAll-swept, Sweeps-counted}
 use Rattle.space_model.proofs.WholeLaws.{Sound-completed}
 use Rattle.space_model.proofs.laws.collections_are_sound.Goals as goal
 
@@ -27,3 +29,11 @@ returns-clause-ends c = λ s h.
       sweep,
       (SweepAll-swept s (swept_pages s.heap.unswept s) (freed_pages s.heap.unswept s) sweep).none_waits,
     )
+
+pub returns-clause-counted : goal.returns-clause-counted
+returns-clause-counted c = Sweeps-counted
+
+pub returns-clause-possible : goal.returns-clause-possible
+returns-clause-possible c = λ s count h.
+    let (names, t, sweeps) = Sweeps-some (min count (length s.heap.unswept)) s.heap.unswept s refl (min-le_right count (length s.heap.unswept)) h in
+    (length names, length t.heap.unswept, t, (names, sweeps, refl, refl))

@@ -3,8 +3,8 @@ use Rattle.std.proofs.Common.{subst}
 use Rattle.space_engine.specs.Allocations.{IsLastReply}
 use Rattle.space_engine.specs.Views.{View}
 use Rattle.space_engine.proofs.NewCommand.{answered_late, cut_off_late}
+use Rattle.space_engine.proofs.NewTurns.{work_late}
 use Rattle.space_engine.proofs.Outcomes.{on_err}
-use Rattle.space_engine.proofs.TurnLaws.{turn_last}
 use Rattle.space_engine.proofs.engine.Engine.create_at_limit.Goals as goal
 
 pub returns-in_err-gone-clause-fault : goal.returns-in_err-gone-clause-fault
@@ -16,16 +16,16 @@ returns-in_err-gone-clause-fault g c = λ v reserved.
     let last = subst (λ (u : View). IsLastReply u second.new.self a.root.now a.is_new a.fields a.guard a.style second.result)
     first.ensures.rest second.ensures.last in
     on_err c.from_residual.result _
-    (cut_off_late a.root.now a.fields a.guard a.style v a.self.now a.is_new reserved need.few need.full need.sound need.able
-    second.new.self first.new.self.heap second.ensures.sound second.result _ _ first.ensures.one_verdict c.in_err-gone.ensures.fault last)
+    (cut_off_late a.root.now a.fields a.guard a.style v a.self.now a.is_new reserved need.few need.full need.able.rests need.names
+    second.new.self first.new.self.heap second.result _ _ first.ensures.one_verdict c.in_err-gone.ensures.fault last)
 
-pub returns-in_err-gone-clause-turn : goal.returns-in_err-gone-clause-turn
-returns-in_err-gone-clause-turn g c =
+pub returns-in_err-gone-clause-work : goal.returns-in_err-gone-clause-work
+returns-in_err-gone-clause-work g c =
     let a = c.args in
     let first = c.collect_and_tell-collected in
     let second = c.allocate_at_limit-reply in
-    turn_last a.self.now.heap first.new.self second.new.self a.root.now a.is_new a.fields a.guard a.style second.result
-    first.ensures.one_verdict second.ensures.last
+    work_late a.self.now.heap first.new.self second.new.self a.root.now a.is_new a.fields a.guard a.style second.result
+    first.ensures.one_verdict second.ensures.last second.ensures.work
 
 pub returns-clause-done : goal.returns-clause-done
 returns-clause-done g c = λ v reserved.
@@ -36,14 +36,14 @@ returns-clause-done g c = λ v reserved.
     let told = c.in_ok-gone in
     let last = subst (λ (u : View). IsLastReply u second.new.self a.root.now a.is_new a.fields a.guard a.style second.result)
     first.ensures.rest second.ensures.last in
-    answered_late a.root.now a.fields a.guard a.style v a.self.now a.is_new reserved need.few need.full need.sound need.able
-    second.new.self first.new.self.heap second.ensures.sound told.field-0.scans told.field-0.gone second.result _ _ _ _
+    answered_late a.root.now a.fields a.guard a.style v a.self.now a.is_new reserved need.few need.full need.able.rests need.names
+    second.new.self first.new.self.heap told.field-0.scans told.field-0.gone second.result _ _ _ _
     told.ensures.done told.ensures.ticked last
 
-pub returns-clause-turn : goal.returns-clause-turn
-returns-clause-turn g c =
+pub returns-clause-work : goal.returns-clause-work
+returns-clause-work g c =
     let a = c.args in
     let first = c.collect_and_tell-collected in
     let second = c.allocate_at_limit-reply in
-    turn_last a.self.now.heap first.new.self second.new.self a.root.now a.is_new a.fields a.guard a.style second.result
-    first.ensures.one_verdict second.ensures.last
+    work_late a.self.now.heap first.new.self second.new.self a.root.now a.is_new a.fields a.guard a.style second.result
+    first.ensures.one_verdict second.ensures.last second.ensures.work

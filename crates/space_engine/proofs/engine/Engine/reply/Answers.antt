@@ -31,3 +31,9 @@ returns-in-Load-clause-answers g c = λ s h. rw c.in-Load.is (c.load.ensures.ans
 
 pub returns-in-Same-clause-answers : goal.returns-in-Same-clause-answers
 returns-in-Same-clause-answers g c = λ s h. rw c.in-Same.is (compared c.args.self.now s h _ _ _ (c.compare.ensures s h))
+
+pub returns-in-Sweep-clause-answers : goal.returns-in-Sweep-clause-answers
+returns-in-Sweep-clause-answers g c = λ s h. rw c.in-Sweep.is (c.sweep.ensures.answers s h)
+
+pub returns-in-Stat-clause-answers : goal.returns-in-Stat-clause-answers
+returns-in-Stat-clause-answers g c = λ s h. rw c.in-Stat.is (c.stat.ensures.answers s h)

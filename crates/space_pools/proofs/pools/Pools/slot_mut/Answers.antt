@@ -5,7 +5,7 @@ use Rattle.space_pools.specs.PageSlots.{spare_page, written_in}
 use Rattle.space_pools.specs.PoolsView.{page_at, used_at}
 use Rattle.space_pools.specs.InsidePools.{view_from, ArePools}
 use Rattle.space_pools.proofs.Places.{used_within, page_within}
-use Rattle.space_pools.proofs.Kept.{sound_written_at, full_written_at, spares_written_at}
+use Rattle.space_pools.proofs.Kept.{sound_written_at, full_written_at, waiting_written_at, spares_written_at}
 use Rattle.space_pools.proofs.pools.Pools.slot_mut.Goals as goal
 
 pub invariant_of-self-lent : goal.invariant_of-self-lent
@@ -23,9 +23,12 @@ invariant_of-self-lent c =
       pages = with_item c.self.inside.pages c.args.page (written_in p c.args.s w);
       cursors = c.self.inside.cursors;
       spare = c.self.inside.spare;
+      first_unswept = c.self.inside.first_unswept;
+      unswept = c.self.inside.unswept;
     })) (sym read) (record {
       sound = sound_written_at v c.args.page c.args.s w here known.sound;
       room = known.room;
       spares = known.spares ∙ sym (spares_written_at v c.args.page c.args.s w here);
+      waiting = waiting_written_at v c.args.page c.args.s w here c.self.inside.first_unswept c.self.inside.unswept known.waiting;
       full = full_written_at v c.args.page c.args.s w here c.self.inside.cursors known.full;
     })

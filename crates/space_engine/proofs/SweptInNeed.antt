@@ -1,0 +1,104 @@
+-- After pages were swept in need of a free address, the heap has what the state has after it.
+use Rattle.std.proofs.Common.{arith, [], ◌≡◌, ◌+◌, length, ap, subst, ⊎_elim, ℕ, zero, suc, true≢false, refl, sym, ◌∙◌}
+use Rattle.space_model.specs.declared.phase.Phase.TheVariants.{Idle, Sweeping}
+use Rattle.space_model.specs.Completions.{CompletesIn, Completes}
+use Rattle.space_model.specs.Sound.{Sound, SoundSweep}
+use Rattle.space_model.specs.Sweeps.{Sweeps}
+use Rattle.space_model.proofs.SweepKept.{sweeping}
+use Rattle.space_model.proofs.SweptLaws.{Sweeps-counted}
+use Rattle.space_engine.specs.Turns.{IsAtRest}
+use Rattle.space_model.specs.NewCommand.{SweepsInNeed as ModelSweepsInNeed}
+use Rattle.space_model.specs.Places.{HasNoFreeAddress}
+use Rattle.space_model.specs.State.{State}
+use Rattle.space_model.proofs.CorpseNames.{corpse_names}
+use Rattle.space_model.proofs.Stages.{IsSweptInVain, in_need_sweeps}
+use Rattle.space_heap.specs.FreeSlots.{HasNoFree}
+use Rattle.space_heap.specs.HeapView.{HeapView}
+use Rattle.space_heap.specs.SoundHeap.{IsSoundHeap}
+use Rattle.space_collector.specs.PagesSwept.{SweepsInNeed, SweepsUntilFree}
+use Rattle.space_collector.proofs.SoundSweeps.{sound-first}
+use Rattle.space_engine.specs.Stands.{Represents, Holds}
+use Rattle.space_engine.specs.Views.{View, with_heap}
+use Rattle.space_engine.proofs.FreeAddresses.{free_agrees}
+use Rattle.space_engine.proofs.SweptPages.{t as swept_state, sweep_is, swept_holds}
+
+-- where no address is free in the heap, none is in the state
+pub none_free_there : (v : View) (s : State) (pool : ℕ) → Represents v s → IsSoundHeap v.heap → HasNoFree v.heap pool → HasNoFreeAddress s pool
+none_free_there v s pool h sound none = λ a f. true≢false (sym ((free_agrees s v.heap h.heap sound pool a).0 f) ∙ none a)
+
+-- what the space stands for after so many pages were swept in need
+pub record SweepsInNeedTo (v : View) (s : State) (z : HeapView) (pool pages : ℕ) : Type 0 where
+  pub state : State
+  pub sweeps : ModelSweepsInNeed pages s pool state
+  pub holds : Holds (with_heap v z) state
+
+pub in_need_hold : (pages : ℕ) (v : View) (s : State) (z : HeapView) (pool : ℕ) → Holds v s → IsSoundHeap v.heap → SweepsInNeed pages v.heap pool z →
+    SweepsInNeedTo v s z pool pages
+in_need_hold zero v s z pool h sound same = record { state = s; sweeps = refl; holds = rw same h }
+in_need_hold (suc pages) v s z pool h sound (none, freed, mid, first, others) =
+    let now = swept_holds v s h sound mid freed first in
+    let later = in_need_hold pages (with_heap v mid) (swept_state v s h sound mid freed first) z pool now (sound-first v.heap mid freed first sound) others in
+    record {
+      state = later.state;
+      sweeps = (
+        none_free_there v s pool h.represents sound none,
+        corpse_names s.heap.corpses first.page,
+        swept_state v s h sound mid freed first,
+        sweep_is v s h sound mid freed first,
+        later.sweeps,
+      );
+      holds = later.holds;
+    }
+
+-- what the space stands for after pages were swept until an address was free, or none waited
+pub record SweepsUntilFreeTo (v : View) (s : State) (z : HeapView) (pool : ℕ) : Type 0 where
+  pub pages : ℕ
+  pub state : State
+  pub sweeps : ModelSweepsInNeed pages s pool state
+  pub holds : Holds (with_heap v z) state
+  -- where no address is free then, they were swept in vain
+  pub vain : HasNoFree z pool → IsSweptInVain s pool state
+
+pub until_free_holds : (v : View) (s : State) (z : HeapView) (pool : ℕ) → Holds v s → IsSoundHeap v.heap → IsSoundHeap z → SweepsUntilFree v.heap z pool →
+    SweepsUntilFreeTo v s z pool
+until_free_holds v s z pool h sound sound_after swept =
+    let to = in_need_hold swept.pages v s z pool h sound swept.sweeps in
+    record {
+      pages = swept.pages;
+      state = to.state;
+      sweeps = to.sweeps;
+      holds = to.holds;
+      vain = λ none. record {
+        pages = swept.pages;
+        sweeps = to.sweeps;
+        none_free = none_free_there (with_heap v z) to.state pool to.holds.represents sound_after none;
+        none_waits = to.holds.represents.heap.pages.waiting ∙ swept.ends none;
+      };
+    }
+
+-- sweeps in vain are a completion, where nothing is under way after them
+
+-- the phase before was Sweeping where a page was swept, and each page that waited was
+completes_in_need : (pages : ℕ) (s : State) (pool : ℕ) (t : State) → Sound s → t.collector.phase ≡ Idle → t.heap.unswept ≡ [] →
+    ModelSweepsInNeed pages s pool t → Completes s [] t
+completes_in_need zero s pool t h idle none same =
+    let at : s.collector.phase ≡ Idle = sym (ap (λ (u : State). u.collector.phase) same) ∙ idle in
+    subst (λ phase. CompletesIn phase s [] t) (sym at) (refl, same)
+completes_in_need (suc pages) s pool t h idle none (full, freed, mid, step, more) =
+    let all = in_need_sweeps (suc pages) s pool t (full, freed, mid, step, more) in
+    let at : s.collector.phase ≡ Sweeping =
+    sweeping s.collector.phase s.heap.pages step.page step.others (subst (SoundSweep s.collector.phase s.heap.pages) step.first h.sweep) in
+    let left : length t.heap.unswept + suc pages ≡ length s.heap.unswept = (Sweeps-counted (suc pages) s t all.0 all.1).0 in
+    let waits : length t.heap.unswept ≡ 0 = ap length none in
+    let long : suc pages ≡ length s.heap.unswept = omega (arith, left, waits) in
+    subst (λ phase. CompletesIn phase s [] t) (sym at) (all.0, refl, subst (λ pages. Sweeps pages s all.0 t) long all.1)
+
+-- in a state where no page waits nothing is under way, where the heap is at rest
+pub idle_in_vain : (v : View) (t : State) → Holds v t → IsAtRest v.heap → t.heap.unswept ≡ [] → t.collector.phase ≡ Idle
+idle_in_vain v t h rests none = ⊎_elim
+    (λ idle. sym h.represents.heap.progress.at ∙ idle)
+    (λ waits. absurd (h.sound.sweep.some (sym h.represents.heap.progress.at ∙ waits) none))
+    rests
+
+pub completes_in_vain : (s : State) (pool : ℕ) (t : State) → Sound s → t.collector.phase ≡ Idle → IsSweptInVain s pool t → Completes s [] t
+completes_in_vain s pool t h idle vain = completes_in_need vain.pages s pool t h idle vain.none_waits vain.sweeps
