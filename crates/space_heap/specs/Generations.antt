@@ -55,6 +55,10 @@ is_minor_scan v a = is_object v a && (is_black (object_of v a).colour && has_min
 abbrev pub is_protected_at : HeapView → ℕ → Bool
 is_protected_at v a = is_protected_guard (object_of v a).guard
 
+-- whether the end of a major marking scans the object that the word names again: it is black, and the write barrier doesn't protect it
+abbrev pub is_finish_scan : HeapView → ℕ → Bool
+is_finish_scan v a = is_object v a && (is_black (object_of v a).colour && not (is_protected_at v a))
+
 -- an unprotected object that the word names is kept
 abbrev pub kept_by_word : HeapView → ℕ → HeapView
 kept_by_word v word = if is_object v word && not (is_protected_at v word) then kept_at v word else v

@@ -6,12 +6,12 @@ use Rattle.space_heap.specs.declared.heap.walking.Found.{Found}
 use Rattle.space_heap.specs.declared.heap.walking.Walk.{Walk}
 use Rattle.space_heap.specs.declared.marks.Marks.{Marks}
 use Rattle.space_heap.specs.declared.marks.Sought.{Sought}
-use Rattle.space_heap.specs.declared.marks.Sought.TheVariants.{Present, Gone, MinorScan}
-use Rattle.space_heap.specs.planes.MarkPlanes.{is_present, is_minor_scan_in}
+use Rattle.space_heap.specs.declared.marks.Sought.TheVariants.{Present, Gone, MinorScan, FinishScan}
+use Rattle.space_heap.specs.planes.MarkPlanes.{is_present, is_minor_scan_in, is_finish_scan_in}
 use Rattle.space_heap.specs.HeapView.{HeapView, pool_at}
 use Rattle.space_heap.specs.Objects.{is_object, object_of}
 use Rattle.space_heap.specs.Sweeping.{is_gone}
-use Rattle.space_heap.specs.Generations.{is_minor_scan}
+use Rattle.space_heap.specs.Generations.{is_minor_scan, is_finish_scan}
 
 -- no address from this one on passes the test
 abbrev pub HasNoneFrom : (ℕ → Bool) → ℕ → Type 0
@@ -58,17 +58,27 @@ HasNoMinorScanFrom v from = HasNoneFrom (is_minor_scan v) from
 abbrev pub IsNextMinorScan : HeapView → ℕ → ℕ → Type 0
 IsNextMinorScan v from a = IsNext (is_minor_scan v) from a
 
+-- from this address on the end of a major marking scans no object again
+abbrev pub HasNoFinishScanFrom : HeapView → ℕ → Type 0
+HasNoFinishScanFrom v from = HasNoneFrom (is_finish_scan v) from
+
+-- the least address from this one on whose object the end of a major marking scans again
+abbrev pub IsNextFinishScan : HeapView → ℕ → ℕ → Type 0
+IsNextFinishScan v from a = IsNext (is_finish_scan v) from a
+
 -- whether a slot of the page with these planes holds what is sought
 abbrev pub is_sought_in : Sought → Marks → ℕ → Bool
 is_sought_in Present m s = is_present m s
 is_sought_in Gone m s = bit m.gone s
 is_sought_in MinorScan m s = is_minor_scan_in m s
+is_sought_in FinishScan m s = is_finish_scan_in m s
 
 -- whether what is sought stands at the address
 abbrev pub is_sought : Sought → HeapView → ℕ → Bool
 is_sought Present v a = is_object v a
 is_sought Gone v a = is_gone v a
 is_sought MinorScan v a = is_minor_scan v a
+is_sought FinishScan v a = is_finish_scan v a
 
 -- what is sought at the least address from this one on, with its name
 abbrev pub IsFound : Sought → HeapView → ℕ → Found → Type 0

@@ -1,7 +1,7 @@
 // The planes of one page, which tell all of its slots but their words.
 ghost use Rattle.std.specs.Prelude.{◌≡◌, ◌<◌, ◌≤◌, ℕ, true, false, [], ◌∷◌, ◌++◌, not, ◌&&◌, length, map, slice_set, vec_capacity, IfOk, MatchOption};
 ghost use Rattle.space_planes.specs.Planes.{bit};
-ghost use Rattle.space_heap.specs.planes.MarkPlanes.{clear_marks, AreWide, new_marks, traits_from, marks_at, guard_from, is_unprotected, colour_from, age_from, is_present, is_minor_scan_in};
+ghost use Rattle.space_heap.specs.planes.MarkPlanes.{clear_marks, AreWide, new_marks, traits_from, marks_at, guard_from, is_unprotected, colour_from, age_from, is_present, is_minor_scan_in, is_finish_scan_in};
 ghost use Rattle.space_heap.specs.Walks.{HasNoneFrom, IsNext, is_sought_in};
 ghost use Rattle.space_heap.specs.planes.RecolouredMarks.{is_marked as is_marked_colour, is_black as is_black_colour, recoloured_marks, unmarked_marks, remembered_marks, kept_marks, unprotected_marks, old_marked_marks};
 
@@ -38,12 +38,14 @@ pub struct Traits {
     pub gone: bool,
 }
 
-// What a walk over slots seeks: objects that aren't gone, those that are, or those that a minor marking scans from its start.
+// What a walk over slots seeks: objects that aren't gone, those that are, those that a minor marking scans from its start, or
+// those that the end of a major marking scans again.
 #[derive(Clone, Copy)]
 pub enum Sought {
     Present,
     Gone,
     MinorScan,
+    FinishScan,
 }
 
 // The guard by its bit.
@@ -374,6 +376,34 @@ impl Marks {
         None
     }
 
+    // Whether the end of a major marking scans the object of the slot again.
+    fn is_finish_scan(&self, s: u32) -> bool
+        requires wide { AreWide self.now (length self.now.object) }
+        requires within { s < length self.now.object }
+        ensures { result ≡ is_finish_scan_in self.now s }
+    {
+        self.guard.get(s) && self.marked.get(s) && self.black.get(s) && self.is_present(s)
+    }
+
+    // The first slot from `s` on that the end of a major marking scans again.
+    fn first_finish_scan(&self, s: u32) -> Option<u32>
+        requires { AreWide self.now (length self.now.object) }
+        ensures { MatchOption result (HasNoneFrom (is_finish_scan_in self.now) s) (IsNext (is_finish_scan_in self.now) s) }
+    {
+        // Few objects are unprotected, so most slots are passed by in their plane, many at once.
+        let mut at = s;
+        'slots: while at < self.object.len() {
+            let Some(slot) = self.guard.first_set_from(at) else {
+                return None;
+            };
+            if self.is_finish_scan(slot) {
+                return Some(slot);
+            }
+            at = slot + 1;
+        }
+        None
+    }
+
     // Whether the slot holds an object that isn't gone.
     pub fn is_present(&self, s: u32) -> bool
         requires wide { AreWide self.now (length self.now.object) }
@@ -442,6 +472,7 @@ impl Marks {
             Sought::Present => self.first_present(s),
             Sought::Gone => self.gone.first_set_from(s),
             Sought::MinorScan => self.first_minor_scan(s),
+            Sought::FinishScan => self.first_finish_scan(s),
         }
     }
 }

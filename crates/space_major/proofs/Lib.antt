@@ -1,1 +1,4 @@
 mod Wholes
+pub mod Starts
+mod UnprotectedScans
+mod Finishes

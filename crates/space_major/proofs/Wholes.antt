@@ -1,5 +1,5 @@
 -- What a whole marking comes to.
-use Rattle.std.proofs.Common.{◌≡◌, ◌≢◌, ◌↔◌, inl, inr, ⊎_elim, ℕ, true, false, List, [], ◌++◌, length, nat_eq, sym, ap, ◌∙◌}
+use Rattle.std.proofs.Common.{◌≡◌, ◌≢◌, ◌↔◌, inl, inr, ⊎_elim, ℕ, true, List, [], ◌++◌, length, nat_eq, sym, ◌∙◌}
 use Rattle.std.specs.Set.{is_member}
 use Rattle.std.proofs.lemmas.List.Folds.{list_any-append}
 use Rattle.std.proofs.lemmas.Bool.{or_cases, or_left, or_right}

@@ -1,31 +1,29 @@
 -- What a minor marking comes to.
 use Rattle.std.proofs.Common.{◌≡◌, ◌≢◌, ◌↔◌, ◌⊎◌, inl, inr, ⊎_elim, ℕ, ◌+◌, true, true≢false, ◌||◌, List, ◌++◌, length, nat_eq, refl, sym, ap, ◌∙◌}
 use Rattle.std.specs.Set.{is_member}
-use Rattle.std.proofs.lemmas.List.Folds.{list_any-append}
 use Rattle.std.proofs.lemmas.Bool.{or_cases, or_left, or_right, and_parts, and_from, cases_Bool, cond-true, cond-false, true_from_ne_false}
 use Rattle.space_model.specs.Reach.{IsReached}
 use Rattle.space_model.specs.Ages.{is_protected_guard}
 use Rattle.space_model.proofs.Reaching.{IsReached-start, IsReached-mono, IsReached-least, IsReached-closed}
-use Rattle.space_heap.specs.declared.colour.Colour.{Colour}
 use Rattle.space_heap.specs.declared.colour.Colour.TheVariants.{White, Grey, Black}
 use Rattle.space_heap.specs.Slots.{ObjectView}
 use Rattle.space_heap.specs.HeapView.{HeapView}
 use Rattle.space_heap.specs.Objects.{is_object, object_of}
 use Rattle.space_heap.specs.Marking.{colour_of}
-use Rattle.space_heap.specs.planes.RecolouredMarks.{is_black}
 use Rattle.space_heap.specs.Generations.{is_old, has_minor_scan, is_minor_scan, old_marked}
 use Rattle.space_heap.specs.Sweeping.{HasNoGone}
 use Rattle.space_heap.proofs.SettledLaws.{none_gone}
 use Rattle.space_heap.proofs.Coherence.{object_of_none}
 use Rattle.space_heap.proofs.GenerationLaws.{is_object-old_marked, object_of-old_marked, colour_of-old_marked}
-use Rattle.space_tracing.specs.Graph.{IsChild, IsNamed, IsStart}
-use Rattle.space_tracing.specs.Marking.{IsMarked, Marking, Notes, IsNoted, is_read}
+use Rattle.space_tracing.specs.Graph.{IsChild, IsStart}
+use Rattle.space_tracing.specs.Marking.{IsMarked, Marking, Notes, IsNoted, CountsAre, is_read}
 use Rattle.space_tracing.proofs.Same.{SameGraph-old_marked, is_child-same}
 use Rattle.space_tracing.proofs.Steps.{From}
 use Rattle.space_tracing.proofs.Bundles.{colours}
 use Rattle.space_tracing.proofs.Ends.{marked_exactly}
 use Rattle.space_tracing.proofs.Noted.{noted_by}
-use Rattle.space_minor.specs.Minors.{IsOldOrKept, IsGenerational, IsMinorScan, IsSpared, IsNewlyMarked, IsMinorScanned, CountsAre}
+use Rattle.space_tracing.proofs.Rescanned.{is_black-at, start_split, start_join}
+use Rattle.space_minor.specs.Minors.{IsOldOrKept, IsGenerational, IsMinorScan, IsSpared, IsNewlyMarked, IsMinorScanned}
 use Rattle.space_minor.specs.FirstScans.{IsHeld}
 
 black_by : (v : HeapView) (a : ℕ) → IsOldOrKept v a → colour_of (old_marked v) a ≡ Black
@@ -46,11 +44,6 @@ held_old_marked v a b =
     (λ k. inr (ap (λ (o : ObjectView). o.kept) same ∙ k))
     (old_or_kept_from v a (λ w. cc))
 
-is_black-at : (c : Colour) → c ≡ Black → is_black c ≡ true
-is_black-at White e = cc
-is_black-at Grey e = cc
-is_black-at Black e = refl
-
 scan-old_marked : (v : HeapView) (n : ℕ) → has_minor_scan (object_of (old_marked v) n) ≡ has_minor_scan (object_of v n)
 scan-old_marked v n = ap has_minor_scan (object_of-old_marked v n)
 
@@ -69,15 +62,6 @@ listed v none n = (
   (λ r. and_from _ _ (is_object-old_marked v n ∙ object_from_scan v n none r)
       (and_from _ _ (is_black-at (colour_of (old_marked v) n) (black_by v n (reasons v n r))) (scan-old_marked v n ∙ r))),
 )
-
-start_split : (v : HeapView) (roots stack : List ℕ) (n : ℕ) → IsNamed v (roots ++ stack) n → IsStart v roots stack n
-start_split v roots stack n k = ⊎_elim (λ l. inl (k.0, l)) (λ r. inr (k.0, r)) (or_cases _ _ (sym (list_any-append (nat_eq n) roots stack) ∙ k.1))
-
-start_join : (v : HeapView) (roots stack : List ℕ) (n : ℕ) → IsStart v roots stack n → IsNamed v (roots ++ stack) n
-start_join v roots stack n s = ⊎_elim
-    (λ k. (k.0, list_any-append (nat_eq n) roots stack ∙ or_left _ _ k.1))
-    (λ k. (k.0, list_any-append (nat_eq n) roots stack ∙ or_right _ _ k.1))
-    s
 
 module _ (old new : HeapView) (roots stack again done : List ℕ) (clean : HasNoGone old)
     (p : Marking (old_marked old) new (roots ++ stack) again done) (none : (n : ℕ) → colour_of new n ≢ Grey)

@@ -1,5 +1,5 @@
--- The scans from the start of a minor marking, of what was black, and what has been scanned of it below an address.
-use Rattle.std.specs.Prelude.{◌≡◌, ◌⊎◌, ℕ, true, ◌&&◌, List, [], nat_eq, nat_lt, length}
+-- The scans from the start of a minor marking, of what was black.
+use Rattle.std.specs.Prelude.{◌≡◌, ◌⊎◌, ℕ, true, List, [], nat_eq, length}
 use Rattle.std.specs.Set.{is_member}
 use Rattle.space_heap.specs.declared.colour.Colour.TheVariants.{Black}
 use Rattle.space_heap.specs.HeapView.{HeapView}
@@ -11,11 +11,6 @@ use Rattle.space_tracing.specs.Marking.{Marks}
 -- each black object is protected, or it is kept
 abbrev pub IsHeld : HeapView → Type 0
 IsHeld v = (a : ℕ) → colour_of v a ≡ Black → (is_protected_at v a ≡ true) ⊎ ((object_of v a).kept ≡ true)
-
--- from old to new the listed objects below the address were scanned again, and no others
-pub record ScansBelow (old new : HeapView) (words again : List ℕ) (from : ℕ) : Type 0 where
-  pub marks : Marks old new words again []
-  pub each : (a : ℕ) → is_member nat_eq again a ≡ (nat_lt a from && is_minor_scan old a)
 
 -- From any moment before at which nothing was scanned, the listed objects were scanned again, which are so many.
 abbrev pub ScansListed : HeapView → HeapView → ℕ → Type 0

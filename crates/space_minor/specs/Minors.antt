@@ -1,12 +1,12 @@
 -- What a minor marking marks and scans, and what it rests on.
-use Rattle.std.specs.Prelude.{◌≡◌, ◌⊎◌, ℕ, ◌+◌, true, false, List}
-use Rattle.space_model.specs.Counts.{CountIs}
+use Rattle.std.specs.Prelude.{◌≡◌, ◌⊎◌, ℕ, true, false, List}
 use Rattle.space_model.specs.Reach.{IsReached}
 use Rattle.space_heap.specs.HeapView.{HeapView}
 use Rattle.space_heap.specs.Objects.{object_of}
 use Rattle.space_heap.specs.Generations.{is_old, has_minor_scan}
 use Rattle.space_tracing.specs.Graph.{IsChild, IsStart}
 use Rattle.space_tracing.specs.Marking.{IsMarked}
+pub use Rattle.space_tracing.specs.Marking.{CountsAre}
 
 -- the object at the address is old, or it is kept
 abbrev pub IsOldOrKept : HeapView → ℕ → Type 0
@@ -32,11 +32,3 @@ IsNewlyMarked old new n = IsMarked new n × (IsOldOrKept old n → ⊥)
 -- what a minor marking scans: each object of its start, and each that it marked newly
 abbrev pub IsMinorScanned : HeapView → HeapView → ℕ → Type 0
 IsMinorScanned old new n = IsMinorScan old n ⊎ IsNewlyMarked old new n
-
--- so many have the one property and so many the other, and the count is the sum of both numbers
-pub record CountsAre (P Q : ℕ → Type 0) (count : ℕ) : Type 0 where
-  pub first : ℕ
-  pub second : ℕ
-  pub have_first : CountIs P first
-  pub have_second : CountIs Q second
-  pub sum : first + second ≡ count

@@ -6,9 +6,9 @@ ghost use Rattle.space_heap.specs.Generations.{old_marked};
 ghost use Rattle.space_heap.specs.SoundHeap.{IsSoundHeap};
 ghost use Rattle.space_heap.specs.Sweeping.{HasNoGone};
 ghost use Rattle.space_tracing.specs.Graph.{SameGraph};
-ghost use Rattle.space_tracing.specs.Marking.{IsMarked, IsNoted};
+ghost use Rattle.space_tracing.specs.Marking.{IsMarked, IsNoted, CountsAre};
 ghost use Rattle.space_minor.specs.FirstScans.{ScansListed};
-ghost use Rattle.space_minor.specs.Minors.{IsGenerational, IsMinorScan, IsSpared, IsNewlyMarked, IsMinorScanned, CountsAre};
+ghost use Rattle.space_minor.specs.Minors.{IsGenerational, IsMinorScan, IsSpared, IsNewlyMarked, IsMinorScanned};
 
 use space_heap::{Colour, Heap};
 use space_model::{Ledger, Steps};

@@ -6,5 +6,6 @@ pub mod Noted
 pub mod Steps
 pub mod Bundles
 pub mod Ends
+pub mod Rescanned
 mod FieldVisits
 mod Inside

@@ -1,5 +1,5 @@
 -- What a scan leaves of each object.
-use Rattle.std.proofs.Common.{◌≡◌, ◌≢◌, ◌⊎◌, ⊎_elim, ℕ, ◌-◌, true, false, not, cond, ◌&&◌, ◌||◌, List, length, take, refl, sym, ap, subst, ◌∙◌, arith}
+use Rattle.std.proofs.Common.{◌≡◌, ◌≢◌, ◌⊎◌, ⊎_elim, ℕ, suc, ◌+◌, ◌-◌, true, false, not, cond, ◌&&◌, ◌||◌, List, length, take, refl, sym, ap, subst, ◌∙◌, arith}
 use Rattle.std.proofs.lemmas.Bool.{cases_Bool, cond-true, cond-false}
 use Rattle.space_heap.specs.declared.colour.Colour.TheVariants.{White, Grey, Black}
 use Rattle.space_heap.specs.Slots.{ObjectView}
@@ -10,7 +10,7 @@ use Rattle.space_heap.specs.Generations.{remembered_as, is_protected_at}
 use Rattle.space_heap.proofs.ObjectLaws.{stays, object_of-with_object_same, object_of-with_object_other}
 use Rattle.space_heap.proofs.MarkingLaws.{is_occupied-recoloured, colour_of-recoloured_same, colour_of-recoloured_other}
 use Rattle.space_heap.proofs.Coherence.{occupied_from_colour}
-use Rattle.space_tracing.specs.Scans.{fields_of, is_aged_at, has_young_child, visited_all, visited_all_by_aged, read_object, scanned}
+use Rattle.space_tracing.specs.Scans.{fields_of, is_aged_at, has_young_child, visited_all, visited_all_by_aged, read_object, scanned, last_grey, scans}
 use Rattle.space_tracing.specs.Graph.{IsChild, is_child, SameGraph}
 use Rattle.space_tracing.specs.Marking.{IsMarked}
 use Rattle.space_tracing.proofs.Same.{SameGraph-then, SameGraph-recoloured, SameGraph-with_object, SameNotes-recoloured, is_child-same, guard-same, aged-same, young_child-same}
@@ -108,3 +108,14 @@ scanned_first v a g = scanned_grey v _ a g (scan_read (blackened v a) a (is_occu
 
 pub scanned_again : (v : HeapView) (a : ℕ) → colour_of v a ≡ Black → Scanned v a (read_object v a)
 scanned_again v a b = scanned_black v _ a b (scan_read v a (occupied_from_colour v a (λ e. cc)))
+
+pub scans-none : (v : HeapView) → scans 0 v ≡ v
+unfolding scans
+scans-none v = refl
+
+-- one more scan was made
+pub scans-more : (v w : HeapView) (k a : ℕ) → w ≡ scans k v → a ≡ last_grey w → scanned w a ≡ scans (k + 1) v
+unfolding scans
+scans-more v w k a made last =
+    let n : suc k ≡ k + 1 = omega arith in
+    ap (scanned w) last ∙ ap (λ (u : HeapView). scanned u (last_grey u)) made ∙ ap (λ k. scans k v) n

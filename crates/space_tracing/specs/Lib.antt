@@ -1,3 +1,4 @@
 pub mod Scans
 pub mod Graph
 pub mod Marking
+pub mod Rescans

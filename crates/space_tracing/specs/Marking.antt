@@ -1,7 +1,8 @@
 -- What marking has done to a heap, from one moment to a later one.
-use Rattle.std.specs.Prelude.{◌≡◌, ◌≢◌, ◌⊎◌, ◌||◌, ℕ, Bool, true, false, List, ◌++◌, length, nat_eq}
+use Rattle.std.specs.Prelude.{◌≡◌, ◌≢◌, ◌⊎◌, ◌||◌, ℕ, ◌+◌, Bool, true, false, List, ◌++◌, length, nat_eq}
 use Rattle.std.specs.List.{IsDistinct}
 use Rattle.std.specs.Set.{is_member}
+use Rattle.space_model.specs.Counts.{CountIs}
 use Rattle.space_model.specs.Reach.{IsReached}
 use Rattle.space_heap.specs.declared.colour.Colour.TheVariants.{White, Black}
 use Rattle.space_heap.specs.HeapView.{HeapView}
@@ -63,3 +64,11 @@ pub record Marks (old new : HeapView) (words again done : List ℕ) : Type 0 whe
 abbrev pub GoesOn : HeapView → HeapView → ℕ → Type 0
 GoesOn now new k = (old : HeapView) (words again done : List ℕ) → Marks old now words again done →
     (more : List ℕ) × Marks old new words again (done ++ more) × (length more ≡ k)
+
+-- so many have the one property and so many the other, and the count is the sum of both numbers
+pub record CountsAre (P Q : ℕ → Type 0) (count : ℕ) : Type 0 where
+  pub first : ℕ
+  pub second : ℕ
+  pub have_first : CountIs P first
+  pub have_second : CountIs Q second
+  pub sum : first + second ≡ count

@@ -1,5 +1,5 @@
 -- What visits of words and a scan of an object leave.
-use Rattle.std.specs.Prelude.{ℕ, Bool, List, if◌then◌else◌}
+use Rattle.std.specs.Prelude.{ℕ, zero, suc, ◌-◌, Bool, List, length, slice_index_or, if◌then◌else◌}
 use Rattle.std.specs.List.{fold, list_any}
 use Rattle.space_heap.specs.HeapView.{HeapView}
 use Rattle.space_heap.specs.Objects.{object_of}
@@ -41,3 +41,12 @@ read_object v a =
 -- the object that became grey last was scanned: it is black, and its fields were visited
 abbrev pub scanned : HeapView → ℕ → HeapView
 scanned v a = read_object (blackened v a) a
+
+-- the address of the object that became grey last; 0, where no object stands, where none is grey
+abbrev pub last_grey : HeapView → ℕ
+last_grey v = slice_index_or v.grey (length v.grey - 1) 0
+
+-- so many scans were made, each of the object that then was the one that became grey last
+unfoldable pub scans : ℕ → HeapView → HeapView
+scans zero v = v
+scans (suc k) v = (let u : HeapView = scans k v in scanned u (last_grey u))

@@ -1,10 +1,10 @@
 // Visits of words, scans of grey objects, and of black ones again.
-ghost use Rattle.std.specs.Prelude.{◌≡◌, ◌≢◌, ◌<◌, ◌+◌, ◌^◌, ℕ, true, []};
+ghost use Rattle.std.specs.Prelude.{◌≡◌, ◌≢◌, ◌<◌, ◌≤◌, ◌+◌, ◌^◌, ℕ, true, []};
 ghost use Rattle.space_roots.specs.WordRoots.{root_words};
 ghost use Rattle.space_heap.specs.Objects.{is_occupied};
 ghost use Rattle.space_heap.specs.Marking.{colour_of, IsLastGrey};
 ghost use Rattle.space_heap.specs.Generations.{remembered_as};
-ghost use Rattle.space_tracing.specs.Scans.{fields_of, has_young_child, visited_all, visited_all_by_aged, read_object, scanned};
+ghost use Rattle.space_tracing.specs.Scans.{fields_of, has_young_child, visited_all, visited_all_by_aged, read_object, scanned, scans};
 ghost use Rattle.space_tracing.specs.Marking.{GoesOn};
 
 use space_heap::{Colour, Heap};
@@ -108,4 +108,26 @@ pub fn drain<L: Ledger>(heap: &mut Heap, steps: &mut Steps<L>) -> u64
         scans += 1;
     }
     scans
+}
+
+/// Makes so many scans, always of the object that became grey last (this project's own), or fewer where nothing is grey any
+/// more. The answer is the number of scans, each in one step. It takes no memory.
+pub fn scan_some<L: Ledger>(heap: &mut Heap, count: u64, steps: &mut Steps<L>) -> u64
+    requires { steps.old < 2 ^ 62 }
+    ensures scans { heap.new ≡ scans result heap.old }
+    ensures few { result ≤ count }
+    ensures all { result < count → heap.new.grey ≡ [] }
+    ensures goes_on { GoesOn heap.old heap.new result }
+    ensures small { result < 2 ^ 26 }
+    ensures ticks { steps.new ≡ steps.old + result }
+{
+    let mut made: u64 = 0;
+    'scans: while made < count {
+        let Some(address) = heap.last_grey() else {
+            return made;
+        };
+        scan(heap, address, steps);
+        made += 1;
+    }
+    made
 }

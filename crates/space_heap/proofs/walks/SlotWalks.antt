@@ -13,14 +13,14 @@ use Rattle.space_pools.specs.Sound.{IsSoundPools}
 use Rattle.space_pools.proofs.Places as places
 use Rattle.space_heap.specs.declared.marks.Marks.{Marks}
 use Rattle.space_heap.specs.declared.marks.Sought.{Sought}
-use Rattle.space_heap.specs.declared.marks.Sought.TheVariants.{Present, Gone, MinorScan}
+use Rattle.space_heap.specs.declared.marks.Sought.TheVariants.{Present, Gone, MinorScan, FinishScan}
 use Rattle.space_heap.specs.declared.marks.Traits.{Traits}
 use Rattle.space_heap.specs.Slots.{has_present, object_in}
 use Rattle.space_heap.specs.HeapView.{PageView, HeapView, no_page, slot_number, is_start, is_slot}
 use Rattle.space_heap.specs.Objects.{is_occupied, is_object, object_of}
-use Rattle.space_heap.specs.planes.MarkPlanes.{marks_at, is_present, is_minor_scan_in, colour_from, guard_from, age_from}
+use Rattle.space_heap.specs.planes.MarkPlanes.{marks_at, is_present, is_minor_scan_in, is_finish_scan_in, colour_from, guard_from, age_from}
 use Rattle.space_heap.specs.planes.RecolouredMarks.{is_black}
-use Rattle.space_heap.specs.Generations.{has_minor_scan, is_minor_scan}
+use Rattle.space_heap.specs.Generations.{has_minor_scan, is_minor_scan, is_finish_scan}
 use Rattle.space_heap.specs.Sweeping.{has_gone}
 use Rattle.space_heap.specs.Walks.{HasNoneFrom, IsNext, HasNoneOn, IsNextOn, is_sought_in, is_sought}
 use Rattle.space_heap.specs.declared.heap.Heap.TheInside.{Inside}
@@ -99,6 +99,8 @@ none_sought : (v : PoolsView) (ms : List Marks) (rest : Rest) (sought : Sought) 
 none_sought v ms rest Present a out = none_object v ms rest a out
 none_sought v ms rest MinorScan a out = ap (λ b. b && (is_black (object_of (view_with v ms rest) a).colour
     && has_minor_scan (object_of (view_with v ms rest) a))) (none_object v ms rest a out)
+none_sought v ms rest FinishScan a out = ap (λ b. b && (is_black (object_of (view_with v ms rest) a).colour
+    && not (is_protected_guard (object_of (view_with v ms rest) a).guard))) (none_object v ms rest a out)
 none_sought v ms rest Gone a out = ap (λ b. b && (object_of (view_with v ms rest) a).gone) (none_occupied v ms rest a out)
 
 -- what the planes tell of whether a minor marking scans an object
@@ -120,17 +122,38 @@ scan_read v ms rest a page slot all at =
     (λ e. ap is_scan_by (sym (traits_read v ms rest a page slot all at (occupied_from_object (view_with v ms rest) a e)))
     ∙ scan_by (bit m.marked slot) (bit m.black slot) (bit m.guard slot) (bit m.age_low slot) (bit m.age_high slot) (bit m.remembered slot) (bit m.kept slot))
 
+-- what the planes tell of whether the end of a major marking scans an object
+finish_by : (marked black unprotected : Bool)
+    → (is_black (colour_from marked black) && not (is_protected_guard (guard_from unprotected))) ≡ ((marked && black) && unprotected)
+finish_by true true true = refl
+finish_by true true false = refl
+finish_by true false unprotected = refl
+finish_by false black unprotected = refl
+
+abbrev is_finish_by : Traits → Bool
+is_finish_by t = is_black t.colour && not (is_protected_guard t.guard)
+
+finish_read : (v : PoolsView) (ms : List Marks) (rest : Rest) (a page slot : ℕ) → AreAllMarks v ms → IsSlotAt v a page slot
+    → is_finish_scan (view_with v ms rest) a ≡ is_finish_scan_in (marks_at ms page) slot
+finish_read v ms rest a page slot all at =
+    let m : Marks = marks_at ms page in
+    and_same (is_object (view_with v ms rest) a) _ (is_present m slot) _ (is_object_read v ms rest a page slot all at)
+    (λ e. ap is_finish_by (sym (traits_read v ms rest a page slot all at (occupied_from_object (view_with v ms rest) a e)))
+    ∙ finish_by (bit m.marked slot) (bit m.black slot) (bit m.guard slot))
+
 -- an object stands where what is sought does
 pub sought_occupied : (v : HeapView) (sought : Sought) (a : ℕ) → is_sought sought v a ≡ true → is_occupied v a ≡ true
 sought_occupied v Present a e = occupied_from_object v a e
 sought_occupied v Gone a e = (and_parts _ _ e).0
 sought_occupied v MinorScan a e = occupied_from_object v a (and_parts _ _ e).0
+sought_occupied v FinishScan a e = occupied_from_object v a (and_parts _ _ e).0
 
 sought_read : (v : PoolsView) (ms : List Marks) (rest : Rest) (page : ℕ) → AreAllMarks v ms → (sought : Sought) (a slot : ℕ) → IsSlotAt v a page slot
     → is_sought sought (view_with v ms rest) a ≡ is_sought_in sought (marks_at ms page) slot
 unfolding is_occupied object_of
 sought_read v ms rest page all Present a slot at = is_object_read v ms rest a page slot all at
 sought_read v ms rest page all MinorScan a slot at = scan_read v ms rest a page slot all at
+sought_read v ms rest page all FinishScan a slot at = finish_read v ms rest a page slot all at
 sought_read v ms rest page all Gone a slot at = ap has_gone (slot_at_read v ms rest a page slot at)
     ∙ sym (gone_from (found_at v page slot) (marks_at ms page) slot ((all.of_page page).each slot))
 
@@ -138,6 +161,11 @@ sought_within : (p : PageSlots) (m : Marks) → AreMarksOf p m → (sought : Sou
 sought_within p m h Present slot e = let w = within_from_bit m.object slot (and_parts (bit m.object slot) (not (bit m.gone slot)) e).0 in
     let l = h.wide.object in omega arith
 sought_within p m h MinorScan slot e =
+    let present = (and_parts (is_present m slot) _ e).0 in
+    let w = within_from_bit m.object slot (and_parts (bit m.object slot) (not (bit m.gone slot)) present).0 in
+    let l = h.wide.object in
+    omega arith
+sought_within p m h FinishScan slot e =
     let present = (and_parts (is_present m slot) _ e).0 in
     let w = within_from_bit m.object slot (and_parts (bit m.object slot) (not (bit m.gone slot)) present).0 in
     let l = h.wide.object in
@@ -221,6 +249,8 @@ unfolding is_object is_occupied object_of
 none_beyond v Present a past = ap has_present (slot_at_none v a (no_slot_beyond v a past))
 none_beyond v MinorScan a past =
     ap (λ s. has_present s && (is_black (object_in s).colour && has_minor_scan (object_in s))) (slot_at_none v a (no_slot_beyond v a past))
+none_beyond v FinishScan a past =
+    ap (λ s. has_present s && (is_black (object_in s).colour && not (is_protected_guard (object_in s).guard))) (slot_at_none v a (no_slot_beyond v a past))
 none_beyond v Gone a past = ap has_gone (slot_at_none v a (no_slot_beyond v a past))
 
 -- after the last page

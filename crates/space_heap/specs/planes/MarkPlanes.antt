@@ -129,3 +129,7 @@ is_old_in m s = (bit m.age_low s && bit m.age_high s) && not (bit m.guard s)
 abbrev pub is_minor_scan_in : Marks → ℕ → Bool
 is_minor_scan_in m s =
     is_present m s && ((bit m.marked s && bit m.black s) && ((is_old_in m s && bit m.remembered s) || bit m.kept s))
+
+-- whether the end of a major marking scans the object of the slot again: it is present, black and unprotected
+abbrev pub is_finish_scan_in : Marks → ℕ → Bool
+is_finish_scan_in m s = is_present m s && ((bit m.marked s && bit m.black s) && bit m.guard s)

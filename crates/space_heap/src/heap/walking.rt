@@ -3,7 +3,7 @@ ghost use Rattle.std.specs.Prelude.{◌≡◌, ◌<◌, ◌≤◌, ◌+◌, ℕ,
 ghost use Rattle.space_model.specs.Layout.{page_of};
 ghost use Rattle.space_heap.specs.HeapView.{HeapView};
 ghost use Rattle.space_heap.specs.SoundHeap.{IsSoundHeap};
-ghost use Rattle.space_heap.specs.Walks.{HasNoneFrom, HasNoneOn, IsFound, IsFoundOn, HasNoObjectFrom, IsNextObject, HasNoGoneFrom, IsFoundGone, HasNoMinorScanFrom, IsNextMinorScan, is_sought, StartsFrom, IsWalkFrom, IsFurther};
+ghost use Rattle.space_heap.specs.Walks.{HasNoneFrom, HasNoneOn, IsFound, IsFoundOn, HasNoObjectFrom, IsNextObject, HasNoGoneFrom, IsFoundGone, HasNoMinorScanFrom, IsNextMinorScan, HasNoFinishScanFrom, IsNextFinishScan, is_sought, StartsFrom, IsWalkFrom, IsFurther};
 
 use crate::addresses::first_slot;
 use crate::heap::Heap;
@@ -115,6 +115,18 @@ impl Heap {
         ensures sound { IsSoundHeap self.now }
     {
         match self.next_of(Sought::MinorScan, from) {
+            Some(found) => Some(found.address),
+            None => None,
+        }
+    }
+
+    /// The least address not below `from` of an object that the end of a major marking scans again: it is black, and the
+    /// write barrier doesn't protect it; or `None` where there is none. It reads no field.
+    pub fn next_finish_scan(&self, from: u64) -> Option<u64>
+        ensures next { MatchOption result (HasNoFinishScanFrom self.now from) (IsNextFinishScan self.now from) }
+        ensures sound { IsSoundHeap self.now }
+    {
+        match self.next_of(Sought::FinishScan, from) {
             Some(found) => Some(found.address),
             None => None,
         }

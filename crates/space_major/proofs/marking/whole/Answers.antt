@@ -15,8 +15,7 @@ marks : (g : given.Over) (c : goal.After-drain g) → (done : List ℕ)
     × Marks (unmarked c.args.heap.now) c.drain.new.heap (root_words c.args.roots.now ++ c.args.stack.now) [] done × (length done ≡ c.drain.result)
 marks g c =
     let words : List ℕ = root_words c.args.roots.now in
-    let visits = c.visit_all.ensures ∙ ap (visited_all c.visit_roots.new.heap) c.words.ensures
-    ∙ ap (λ v. visited_all v c.args.stack.now) (c.visit_roots.ensures ∙ ap (λ v. visited_all v words) c.unmark.ensures) in
+    let visits = c.visit_starts.ensures ∙ ap (λ v. visited_all (visited_all v words) c.args.stack.now) c.unmark.ensures in
     c.drain.ensures.goes_on (unmarked c.args.heap.now) (words ++ c.args.stack.now) [] []
     (subst (λ s. Marks (unmarked c.args.heap.now) s (words ++ c.args.stack.now) [] []) (sym visits) (marks_opened c.args.heap.now words c.args.stack.now))
 

@@ -6,7 +6,7 @@ use Rattle.space_tracing.specs.Scans.{visited_all}
 use Rattle.space_tracing.specs.Marking.{Marks}
 use Rattle.space_tracing.proofs.Same.{SameGraph-then, SameGraph-old_marked}
 use Rattle.space_tracing.proofs.Bundles.{marks_none, marks_words}
-use Rattle.space_minor.proofs.FirstScanLaws.{few_again}
+use Rattle.space_tracing.proofs.Rescanned.{few_again}
 use Rattle.space_minor.proofs.MinorMarks.{held_old_marked, spared, counts, noted}
 use Rattle.space_minor.proofs.marking.minor.Given as given
 use Rattle.space_minor.proofs.marking.minor.Goals as goal

@@ -3,8 +3,10 @@ use Rattle.std.proofs.lemmas.Bool.{and_parts}
 use Rattle.std.proofs.lemmas.List.{length-append}
 use Rattle.space_heap.specs.Objects.{is_object}
 use Rattle.space_heap.proofs.ObjectLaws.{occupied_from_object}
-use Rattle.space_minor.specs.FirstScans.{ScansBelow}
-use Rattle.space_minor.proofs.FirstScanLaws.{small_object, below_none, below_scan, below_all}
+use Rattle.space_heap.specs.Generations.{is_minor_scan}
+use Rattle.space_tracing.specs.Rescans.{ScansBelow}
+use Rattle.space_tracing.proofs.Rescanned.{small_object, below_none}
+use Rattle.space_minor.proofs.FirstScanLaws.{first_scan, first_all}
 use Rattle.space_minor.proofs.marking.scan_listed.Goals as goal
 
 pub scans-init : goal.scans-init
@@ -12,7 +14,7 @@ scans-init g c = record {
   few = omega arith;
   within = omega arith;
   ticks = omega arith;
-  so_far = λ old words m h. ([], below_none old c.args.heap.now words m, refl);
+  so_far = λ old words m h. ([], below_none (is_minor_scan old) old c.args.heap.now words m, refl);
 }
 
 pub scan_again-requires-clause-object : goal.scan_again-requires-clause-object
@@ -45,8 +47,8 @@ scans-preserved g c =
       so_far = λ old words m h.
           let t = i.so_far old words m h in (
             t.0 ++ c.in-Some.address ∷ [],
-            subst (λ v. ScansBelow old v words (t.0 ++ c.in-Some.address ∷ []) (c.in-Some.address + 1)) (sym c.scan_again.ensures.read)
-                (below_scan old c.scans.heap words t.0 c.scans.from c.in-Some.address h t.1 next),
+            subst (λ v. ScansBelow (is_minor_scan old) old v words (t.0 ++ c.in-Some.address ∷ []) (c.in-Some.address + 1)) (sym c.scan_again.ensures.read)
+                (first_scan old c.scans.heap words t.0 c.scans.from c.in-Some.address h t.1 next),
             omega (arith, length-append t.0 (c.in-Some.address ∷ []), t.2),
           );
     }
@@ -54,7 +56,7 @@ scans-preserved g c =
 pub returns-clause-listed : goal.returns-clause-listed
 returns-clause-listed g c = λ old words m h.
     let t = c.scans.invariant.so_far old words m h in
-    (t.0, t.1.marks, below_all old c.scans.heap words t.0 c.scans.from h t.1 c.in_default.ensures.next, t.2)
+    (t.0, t.1.marks, first_all old c.scans.heap words t.0 c.scans.from h t.1 c.in_default.ensures.next, t.2)
 
 pub overflow_add-from : goal.overflow_add-from
 overflow_add-from g c =

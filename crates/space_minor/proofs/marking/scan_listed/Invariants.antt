@@ -1,7 +1,9 @@
 use Rattle.std.proofs.Common.{◌≡◌, ◌+◌, ◌-◌, ◌^◌, ◌≤◌, ℕ, List, [], length}
 use Rattle.space_heap.specs.HeapView.{HeapView}
+use Rattle.space_heap.specs.Generations.{is_minor_scan}
 use Rattle.space_tracing.specs.Marking.{Marks}
-use Rattle.space_minor.specs.FirstScans.{IsHeld, ScansBelow}
+use Rattle.space_tracing.specs.Rescans.{ScansBelow}
+use Rattle.space_minor.specs.FirstScans.{IsHeld}
 use Rattle.space_minor.proofs.marking.scan_listed.Given as goal
 
 -- the listed objects so far were scanned again, so many
@@ -10,7 +12,7 @@ invariant-scans g l = record {
   few : l.scans ≤ l.from;
   within : l.from ≤ 2 ^ 29;
   ticks : l.steps ≡ l.fn.steps + l.scans;
-  so_far : (old : HeapView) (words : List ℕ) → Marks old l.fn.heap words [] [] → IsHeld old → (again : List ℕ) × ScansBelow old l.heap words again l.from
+  so_far : (old : HeapView) (words : List ℕ) → Marks old l.fn.heap words [] [] → IsHeld old → (again : List ℕ) × ScansBelow (is_minor_scan old) old l.heap words again l.from
       × (length again ≡ l.scans);
 }
 
