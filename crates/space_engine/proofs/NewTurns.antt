@@ -28,7 +28,7 @@ use Rattle.space_engine.specs.Allocations.{IsLastReply, IsSwept}
 use Rattle.space_engine.specs.HeapCollections.{IsOneVerdict}
 use Rattle.space_engine.specs.Turns.{CanAnswer, CanCompleteAndCollect, IsAtRest, IsWork, IsOneTurn}
 use Rattle.space_engine.specs.Views.{View}
-use Rattle.space_engine.proofs.TurnLaws.{IsAlike, quiescent_alike, rests_alike, work_swept, work_then}
+use Rattle.space_engine.proofs.TurnLaws.{IsAlike, quiescent_alike, rests_alike, work_swept, work_then, work_born}
 
 -- an object was allocated
 
@@ -89,19 +89,7 @@ module _ (v w : HeapView) (fields : ℕ) (guard : Guard) (style : Style) (name a
 
   -- nothing was swept
   work_allocated : IsWork 0 v w
-  work_allocated =
-      let born = ap (λ (c : Counters). c.born) counters_allocated in
-      let minors = ap (λ (c : Counters). c.minor_verdicts) counters_allocated in
-      let others = ap (λ (c : Counters). c.other_verdicts) counters_allocated in
-      let freed = ap (λ (c : Counters). c.freed) counters_allocated in
-      record {
-        born = omega arith;
-        minor_verdicts = omega arith;
-        other_verdicts = omega arith;
-        freed = omega arith;
-        quiescent = λ q rests. quiescent_allocated q;
-        rests = rests_allocated;
-      }
+  work_allocated = work_born 0 v w (v.counters.born + 1) counters_allocated (omega arith) (λ q rests. quiescent_allocated q) rests_allocated
 
   -- and before that pages were swept
   pub work_made : (before : HeapView) → LeavesRest before v → v.counters.freed ≤ before.counters.freed + most_slots → IsQuiescent v → IsWork 1 before w

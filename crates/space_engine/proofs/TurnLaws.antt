@@ -44,11 +44,11 @@ rests_alike v w same rests = ⊎_elim (λ idle. inl (same ∙ idle)) (λ sweepin
 rests_left : (v w : HeapView) → LeavesRest v w → IsAtRest v → IsAtRest w
 rests_left v w rest rests = ⊎_elim (λ same. rests_alike v w same rests) (λ idle. inl idle) rest.phase
 
--- no count changed, and a quiescent heap at rest stays such
-pub work_uncounted : (k : ℕ) (v w : HeapView) → w.counters ≡ v.counters → (IsQuiescent v → IsAtRest v → IsQuiescent w) → (IsAtRest v → IsAtRest w) →
-    IsWork k v w
-work_uncounted k v w counters quiescent rests =
-    let born = ap (λ (c : Counters). c.born) counters in
+-- no count changed but that of objects, which rose by one at most, and a quiescent heap at rest stays such
+pub work_born : (k : ℕ) (v w : HeapView) (born : ℕ) → w.counters ≡ record v.counters { born = born } → born ≤ v.counters.born + 1 →
+    (IsQuiescent v → IsAtRest v → IsQuiescent w) → (IsAtRest v → IsAtRest w) → IsWork k v w
+work_born k v w born counters few quiescent rests =
+    let same = ap (λ (c : Counters). c.born) counters in
     let minors = ap (λ (c : Counters). c.minor_verdicts) counters in
     let others = ap (λ (c : Counters). c.other_verdicts) counters in
     let freed = ap (λ (c : Counters). c.freed) counters in
@@ -60,6 +60,11 @@ work_uncounted k v w counters quiescent rests =
       quiescent = quiescent;
       rests = rests;
     }
+
+-- no count changed at all
+pub work_uncounted : (k : ℕ) (v w : HeapView) → w.counters ≡ v.counters → (IsQuiescent v → IsAtRest v → IsQuiescent w) → (IsAtRest v → IsAtRest w) →
+    IsWork k v w
+work_uncounted k v w counters quiescent rests = work_born k v w v.counters.born counters (omega arith) quiescent rests
 
 -- heaps that are alike, where no count changed
 turn_alike : (k : ℕ) (v w : HeapView) → IsAlike v w → w.counters ≡ v.counters → IsWork k v w
