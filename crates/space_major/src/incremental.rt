@@ -1,7 +1,7 @@
 // A major marking in parts: its start, some of its scans, and its end.
 ghost use Rattle.std.specs.Prelude.{◌≡◌, ◌≢◌, ◌↔◌, ◌<◌, ◌≤◌, ◌+◌, ◌^◌, ℕ, [], length};
 ghost use Rattle.space_roots.specs.WordRoots.{root_words};
-ghost use Rattle.space_heap.specs.Marking.{colour_of};
+ghost use Rattle.space_heap.specs.Marking.{colour_of, IsCoherent};
 ghost use Rattle.space_heap.specs.SoundHeap.{IsSoundHeap};
 ghost use Rattle.space_heap.specs.Sweeping.{HasNoGone};
 ghost use Rattle.space_tracing.specs.Scans.{scans};
@@ -36,7 +36,7 @@ pub fn start(heap: &mut Heap, roots: &Roots, stack: &Stack)
 }
 
 /// Makes `n` scans of a major marking, or fewer where nothing is grey any more: always of the object that became grey last,
-/// each in one step (this project's own). It takes no memory.
+/// each in one step (this project's own). The grey ones are counted, each once. It takes no memory.
 pub fn mark<L: Ledger>(heap: &mut Heap, n: u64, steps: &mut Steps<L>) -> Marked
     requires { steps.old < 2 ^ 62 }
     ensures scans { heap.new ≡ scans result.scanned heap.old }
@@ -44,6 +44,7 @@ pub fn mark<L: Ledger>(heap: &mut Heap, n: u64, steps: &mut Steps<L>) -> Marked
     ensures all { result.scanned < n → heap.new.grey ≡ [] }
     ensures goes_on { GoesOn heap.old heap.new result.scanned }
     ensures grey { result.grey ≡ length heap.new.grey }
+    ensures coherent { IsCoherent heap.new }
     ensures small { result.scanned < 2 ^ 26 }
     ensures ticks { steps.new ≡ steps.old + result.scanned }
 {

@@ -11,9 +11,10 @@ use crate::mark_stack::push_grey;
 use crate::marks::{marks_of, recolour_slot, unmark_pages};
 
 impl Heap {
-    /// How many objects are grey.
+    /// How many objects are grey. The clause `coherent` holds of every heap.
     pub fn grey_count(&self) -> u64
-        ensures { result ≡ length self.now.grey }
+        ensures count { result ≡ length self.now.grey }
+        ensures coherent { IsCoherent self.now }
     {
         self.grey.len() as u64
     }
