@@ -1,19 +1,21 @@
 -- Page after page is swept: what holds after so many sweeps, and after all.
-use Rattle.std.proofs.Common.{◌≡◌, ℕ, zero, suc, ◌+◌, ◌*◌, ◌<◌, ◌≤◌, ◌∙◌, [], length, map, refl, sym, ap, subst, arith}
+use Rattle.std.proofs.Common.{◌≡◌, ℕ, zero, suc, ◌+◌, ◌*◌, ◌<◌, ◌≤◌, ◌∙◌, List, [], ◌∷◌, length, map, refl, sym, ap, subst, arith}
 use Rattle.std.specs.Prelude.{count_by}
 use Rattle.std.specs.List.{range_with_len}
 use Rattle.std.proofs.lemmas.List.FromFn.{length-range_with_len}
 use Rattle.std.proofs.lemmas.List.Sums.{length-filter, count_by-le-length}
 use Rattle.space_model.specs.Layout.{most_pages, most_page_slots}
-use Rattle.space_heap.specs.HeapView.{HeapView, is_unswept}
+use Rattle.space_heap.specs.HeapView.{HeapView, page_at, is_unswept}
 use Rattle.space_heap.specs.SoundHeap.{IsSoundHeap}
-use Rattle.space_heap.specs.Sweeping.{HasNoGone}
-use Rattle.space_sweep.specs.Sweeps.{SweepsFirst}
+use Rattle.space_heap.specs.Sweeping.{HasNoGone, has_gone, swept}
+use Rattle.space_heap.proofs.GoneCounts.{gone_on_page}
+use Rattle.space_sweep.specs.Sweeps.{SweepsFirst, phase_left}
+use Rattle.space_sweep.proofs.GoneWaits.{none_gone_waiting}
 use Rattle.space_collector.specs.GoneNames.{gone_names, name_at}
 use Rattle.space_collector.specs.PagesSwept.{SweepsPages, SweepsAll, LeavesRest}
 use Rattle.space_collector.specs.Quiescent.{IsQuiescent, most_slots}
 use Rattle.space_collector.proofs.GoneLists.{none_gone_below}
-use Rattle.space_collector.proofs.PageSweeps.{fewer_wait, freed-first, freed_most-first, gone-first, quiescent-first}
+use Rattle.space_collector.proofs.PageSweeps.{unswept-first, fewer_wait, freed-first, freed_most-first, gone-first, quiescent-first}
 use Rattle.space_collector.proofs.RestLaws.{leaves_rest_refl, leaves_rest_then, leaves_rest-first}
 use Rattle.space_collector.proofs.SoundSweeps.{sound-first}
 
@@ -108,6 +110,26 @@ freed_most (suc pages) v w sound swept =
 -- where none is gone there are no names
 pub no_names : (v : HeapView) → HasNoGone v → length (gone_names v) ≡ 0
 no_names v none = ap (λ xs. length (map (name_at v) xs)) (none_gone_below v none)
+
+-- no more objects are gone than the pages that wait have slots
+gone_few : (waiting : List ℕ) (v : HeapView) → v.unswept ≡ waiting → IsSoundHeap v → IsQuiescent v → length (gone_names v) ≤ most_page_slots * length waiting
+gone_few [] v e sound quiescent = let none = no_names v (none_gone_waiting v quiescent.gone_wait e) in omega arith
+gone_few (page ∷ others) v e sound quiescent =
+    let freed : ℕ = count_by has_gone (page_at v page).slots in
+    let w : HeapView = record (swept v page) { phase = phase_left others v.phase } in
+    let first : SweepsFirst v w freed = record { page = page; others = others; first = e; after = refl; count = gone_on_page v page sound } in
+    let count = freed-first v w freed first sound in
+    let few = freed_most-first v w freed first sound in
+    let gone = gone-first v w freed first in
+    let rest = gone_few others w (unswept-first v w freed first sound) (sound-first v w freed first sound) (quiescent-first v w freed first sound quiescent) in
+    omega (arith, count, few, gone, rest)
+
+-- no more objects are gone than a heap has slots
+pub gone_most : (v : HeapView) → IsSoundHeap v → IsQuiescent v → length (gone_names v) ≤ most_slots
+gone_most v sound quiescent =
+    let gone = gone_few v.unswept v refl sound quiescent in
+    let few = unswept_most v sound in
+    omega arith
 
 -- no counter but that of the freed slots changes
 pub sweeps_counters : (pages : ℕ) (v w : HeapView) → IsSoundHeap v → SweepsPages pages v w → w.counters ≡ record v.counters { freed = w.counters.freed }

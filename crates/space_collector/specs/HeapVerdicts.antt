@@ -9,7 +9,8 @@ use Rattle.space_tracing.specs.Marking.{IsMarked, IsNoted}
 use Rattle.space_collector.specs.KindMarkings.{begun, IsReadyFor, IsSparedBy, IsScannedBy, AreScansBy}
 use Rattle.space_collector.specs.Quiescent.{HasNoGrey}
 
--- a marking of this kind changed marks alone: it marked what these words of roots and the stack ask it to, with so many scans
+-- a marking of this kind changed marks alone, of a major one its end: it marked what these words of roots and the stack ask it to, with so
+-- many scans
 pub record IsKindMarking (old marked : HeapView) (kind : Kind) (roots stack : List ℕ) (scans : ℕ) : Type 0 where
   pub same : SameGraph old marked
   pub marks : IsReadyFor kind old → (a : ℕ) → IsMarked marked a ↔ IsSparedBy kind old roots stack a

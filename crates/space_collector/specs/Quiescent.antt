@@ -1,5 +1,8 @@
 -- What holds of a heap between commands, by its phase, and when a marking and its verdict can begin.
 use Rattle.std.specs.Prelude.{◌≡◌, ◌≢◌, ℕ, ◌*◌, ◌^◌, ◌<◌, true, []}
+use Rattle.space_model.specs.declared.event.Kind.{Kind}
+use Rattle.space_model.specs.declared.event.Kind.TheVariants.{Minor, Major, Full}
+use Rattle.space_model.specs.declared.phase.Phase.{Phase}
 use Rattle.space_model.specs.declared.phase.Phase.TheVariants.{Idle, Marking, Sweeping, Moving, Fixing}
 use Rattle.space_model.specs.Layout.{most_pages, most_page_slots, page_of}
 use Rattle.space_heap.specs.declared.colour.Colour.TheVariants.{Grey}
@@ -22,10 +25,17 @@ pub record IsQuiescent (heap : HeapView) : Type 0 where
   pub none_moved : heap.phase ≢ Moving → heap.phase ≢ Fixing → HasNoMoved heap
   pub none_grey : heap.phase ≢ Marking → HasNoGrey heap
 
--- nothing is under way, and each count of verdicts leaves room for one more
-pub record CanCollect (heap : HeapView) : Type 0 where
+-- the phase in which a collection of this kind begins: a minor or a full marking where nothing is under way, and a major verdict ends the
+-- marking that is under way
+abbrev pub phase_before : Kind → Phase
+phase_before Minor = Idle
+phase_before Major = Marking
+phase_before Full = Idle
+
+-- the phase is the one in which a collection of this kind begins, and each count of verdicts leaves room for one more
+pub record CanCollect (kind : Kind) (heap : HeapView) : Type 0 where
   pub quiescent : IsQuiescent heap
-  pub idle : heap.phase ≡ Idle
+  pub begins : heap.phase ≡ phase_before kind
   pub minor_verdicts : heap.counters.minor_verdicts < 2 ^ 62
   pub other_verdicts : heap.counters.other_verdicts < 2 ^ 62
 

@@ -1,5 +1,5 @@
 // The pieces of a collection: `collect`, which is a marking and its verdict, and the lines of the verdict.
-ghost use Rattle.std.specs.Prelude.{◌≡◌, ◌<◌, ◌+◌, ◌^◌, length, map, OnOk, OnErr};
+ghost use Rattle.std.specs.Prelude.{◌≡◌, ◌<◌, ◌≤◌, ◌+◌, ◌^◌, length, map, OnOk, OnErr};
 ghost use Rattle.std.specs.Io.KnownBytes.{Appends};
 ghost use Rattle.space_io.specs.Causes.{HasCause};
 ghost use Rattle.space_io.specs.Sinks.{AppendsPrefix};
@@ -10,11 +10,11 @@ ghost use Rattle.space_heap.specs.Sweeping.{HasNoGone};
 ghost use Rattle.space_roots.specs.WordRoots.{root_words};
 ghost use Rattle.space_collector.specs.GoneNames.{gone_names};
 ghost use Rattle.space_collector.specs.HeapVerdicts.{IsKindMarking, IsHeapVerdict};
-ghost use Rattle.space_collector.specs.Quiescent.{CanCollect, IsQuiescent};
+ghost use Rattle.space_collector.specs.Quiescent.{most_slots, CanCollect, IsQuiescent};
 
 use space_heap::Heap;
 use space_io::{Sink, WriteFault};
-use space_major::whole;
+use space_major::{finish, whole};
 use space_minor::minor;
 use space_model::{Event, Kind, Ledger, Steps};
 use space_roots::{Roots, Stack};
@@ -30,7 +30,8 @@ pub struct Collected {
     pub gone: u64,
 }
 
-// The marking of a collection of this kind. The answer is how many objects were scanned.
+// The marking of a collection of this kind: by `Major` it is the end of the marking that is under way. The answer is how many
+// objects were scanned.
 fn mark<L: Ledger>(
     heap: &mut Heap,
     roots: &Roots,
@@ -46,14 +47,16 @@ fn mark<L: Ledger>(
 {
     match kind {
         Kind::Minor => minor(heap, roots, stack, steps),
-        Kind::Major | Kind::Full => whole(heap, roots, stack, steps),
+        Kind::Major => finish(heap, roots, stack, steps),
+        Kind::Full => whole(heap, roots, stack, steps),
     }
 }
 
-/// Marks what roots and the stack lead to, as a minor or a whole marking of CRuby 3.3 does, and then carries out a verdict of
-/// the kind: all other objects are gone, and each page that has a pool waits for a sweep. A minor marking spares old and kept
-/// objects too; a major and a full verdict come after a whole one. The answer counts objects. It takes no memory, frees no
-/// slot and tells nothing. That the verdict is on all pages before the first sweep is this project's own.
+/// Marks what roots and the stack lead to, as a minor or a whole marking of CRuby 3.3 does, or ends the major marking that is
+/// under way, and then carries out a verdict of the kind: all other objects are gone, and each page that has a pool waits for a
+/// sweep. A minor marking spares old and kept objects too; the end of a major one spares what was marked before and what that
+/// leads to; a full verdict comes after a whole marking. The answer counts objects. It takes no memory, frees no slot and tells
+/// nothing. That the verdict is on all pages before the first sweep is this project's own.
 pub fn collect<L: Ledger>(
     heap: &mut Heap,
     roots: &Roots,
@@ -61,11 +64,12 @@ pub fn collect<L: Ledger>(
     kind: Kind,
     steps: &mut Steps<L>,
 ) -> Collected
-    requires able { CanCollect heap.old }
+    requires able { CanCollect kind heap.old }
     requires steps { steps.old < 2 ^ 62 }
     ensures verdict { IsHeapVerdict heap.old heap.new kind (root_words roots.now) stack.now result.scans }
     ensures few { result.scans < 2 ^ 27 }
     ensures gone { result.gone ≡ length (gone_names heap.new) }
+    ensures most { result.gone ≤ most_slots }
     ensures quiescent { IsQuiescent heap.new }
     ensures ticked { steps.new ≡ steps.old + result.scans }
 {

@@ -1,5 +1,5 @@
-//! The pieces of a collection: a minor or a whole marking with its verdict, the lines that tell a verdict of any kind, and sweeps of
-//! the pages that wait.
+//! The pieces of a collection: a minor marking, a whole one or the end of a major one with its verdict, the lines that tell a verdict
+//! of any kind, and sweeps of the pages that wait.
 #![tactic(auto)]
 
 mod collection;

@@ -1,17 +1,17 @@
 -- After a marking and its verdict, of any kind, the heap has what the state has after that verdict.
-use Rattle.std.proofs.Common.{◌≡◌, ◌+◌, ◌&&◌, not, ℕ, Bool, true, false, true≢false, List, [], ◌∷◌, length, refl, sym, ap, ◌∙◌, nat_eq, cond, Option, None, Some, ⊎_elim, inl}
+use Rattle.std.proofs.Common.{◌≡◌, ◌≢◌, ◌+◌, ◌&&◌, not, ℕ, Bool, true, false, true≢false, List, [], ◌∷◌, length, refl, sym, ap, ◌∙◌, nat_eq, cond, Option, None, Some, ⊎_elim, inl}
 use Rattle.std.specs.Prelude.{unwrap_or, is_some}
 use Rattle.std.specs.List.{flat_map, filter, range_with_len}
 use Rattle.std.specs.Ordering.{nat_cmp}
 use Rattle.std.specs.Set.{is_member}
 use Rattle.std.specs.FinMap.{FinMap, get, empty, get-empty}
-use Rattle.std.proofs.lemmas.Bool.{cases_Bool, and_parts, and_from, or_left, eq-eqb, cond-true, cond-false, not-true}
+use Rattle.std.proofs.lemmas.Bool.{cases_Bool, and_parts, and_from, or_left, eq-eqb, cond-true, cond-false, not-true, false_from_ne_true}
 use Rattle.std.proofs.lemmas.List.Elements.{filter_agree}
 use Rattle.space_model.specs.declared.event.Kind.{Kind}
 use Rattle.space_model.specs.declared.event.Kind.TheVariants.{Minor, Major, Full}
 use Rattle.space_model.specs.declared.value.Value.{Value}
 use Rattle.space_model.specs.declared.value.Value.TheVariants.{Nil, Small, Name}
-use Rattle.space_model.specs.Markings.{counted, mark_started, took}
+use Rattle.space_model.specs.Markings.{counted, took}
 use Rattle.space_model.specs.Sweeps.{sweep_phase}
 use Rattle.space_model.specs.Graph.{Item, item_of, names_of, children, IsChild}
 use Rattle.space_model.specs.Maps.{without, carried_over, address_in, IsRising}
@@ -19,18 +19,23 @@ use Rattle.space_model.specs.Moments.{noted, mixed_names, with_names}
 use Rattle.space_model.specs.Operands.{value_word}
 use Rattle.space_model.specs.Pages.{pool_at as pool_of_page, pool_pages}
 use Rattle.space_model.specs.Roots.{Root, root_names}
-use Rattle.space_model.specs.State.{State, Counters}
+use Rattle.space_model.specs.State.{State, History, Counters}
 use Rattle.space_model.specs.Verdicts.{IsVerdict}
 use Rattle.space_model.proofs.MapLaws.{get-without, get-carried_over, held_without, held_over}
+use Rattle.space_model.proofs.MarkingKept.{sweeps_mark_none}
 use Rattle.space_model.proofs.Members.{member_left, member_right}
+use Rattle.space_heap.specs.declared.colour.Colour.{Colour}
+use Rattle.space_heap.specs.declared.colour.Colour.TheVariants.{White, Grey, Black}
 use Rattle.space_heap.specs.Slots.{ObjectView}
 use Rattle.space_heap.specs.HeapView.{HeapView, Counters as HeapCounters, pool_at}
 use Rattle.space_heap.specs.Marking.{colour_of}
 use Rattle.space_heap.specs.Objects.{is_occupied, is_object, object_of}
 use Rattle.space_heap.specs.Sweeping.{is_white, is_gone, settled, settled_object, phase_with, minors_after, others_after, pooled_pages, HasNoGone}
 use Rattle.space_heap.proofs.FreeLaws.{is_moved-settled}
+use Rattle.space_heap.proofs.MarkingLaws.{White-from_is_white}
 use Rattle.space_heap.proofs.SettledLaws.{none_gone, is_gone-settled, is_object-settled, is_occupied-settled, stays-settled, resolved-settled, pool_at-settled, count-settled, limit-settled, unswept-settled, phase-settled, cursor-settled, grey-settled, counters-settled}
 use Rattle.space_tracing.specs.Graph.{SameGraph}
+use Rattle.space_tracing.specs.Marking.{IsMarked}
 use Rattle.space_collector.specs.GoneNames.{name_at, gone_names}
 use Rattle.space_collector.specs.Quiescent.{HasNoGrey}
 use Rattle.space_collector.proofs.GoneLists.{member_gone_names, gone_names_rising}
@@ -110,6 +115,11 @@ same_count f Minor counters = refl
 same_count f Major counters = refl
 same_count f Full counters = refl
 
+not_white : (colour : Colour) → is_white colour ≡ false → colour ≢ White
+not_white White e f = true≢false e
+not_white Grey e f = cc
+not_white Black e f = cc
+
 -- of a heap in which no object is gone and none was moved: what the verdict takes, and what it leaves
 module _ (v : View) (s : State) (h : Represents v s) (clean : HasNoGone v.heap) (marked : HeapView) (same : SameGraph v.heap marked) (kind : Kind) where
   -- the heap after the verdict
@@ -165,6 +175,13 @@ module _ (v : View) (s : State) (h : Represents v s) (clean : HasNoGone v.heap) 
       (λ g. g ∙ sym f)
       (cases_Bool (is_member nat_eq taken name)))
       (cases_Bool (unmarked_at address))
+
+  -- so it stays where its object is marked
+  pub marked_stays : (name address : ℕ) → get s.heap.place name ≡ Some address → IsMarked marked address → is_member nat_eq taken name ≡ false
+  marked_stays name address e m = taken_at name address e ∙ false_from_ne_true _ (λ t. m (White-from_is_white (colour_of marked address) t))
+
+  pub stays_marked : (name address : ℕ) → get s.heap.place name ≡ Some address → is_member nat_eq taken name ≡ false → IsMarked marked address
+  stays_marked name address e out = not_white (colour_of marked address) (sym (taken_at name address e) ∙ out)
 
   -- and they are taken in ascending order of place
   pub taken_rising : IsRising s.heap.place taken
@@ -297,24 +314,31 @@ module _ (v : View) (s : State) (h : Represents v s) (clean : HasNoGone v.heap) 
         (λ f. f)
         (cases_Bool (is_member nat_eq taken n))
 
-    -- the names with a child that isn't old, at the start of the marking and after the verdict
-    abbrev pub mixed' : List ℕ
-    mixed' = with_names (mixed_names (took s kind taken)) (mixed_names s)
+    -- what was noted before the verdict: a marking that begins notes it anew, and one that ends goes on with what was noted
+    module _ (history : History) where
+      -- the state before the verdict
+      abbrev pub before : State
+      before = record s { history = history }
 
-    pub settled_represents : HasGenerations s.graph place' (took s kind taken).collector mixed' w →
-        Represents (with_heap v w) (noted (took (mark_started s) kind taken))
-    settled_represents generations = record {
-      heap = record {
-        objects = objects_left;
-        corpses = corpses_left;
-        left = left_same;
-        pages = pages_same;
-        progress = progress_after;
-        counted = counted_after;
-      };
-      generations = generations;
-      roots = resolved_roots-same v.heap w (λ word. resolved-settled marked kind word ∙ same.moves word) v.roots
-          ∙ h.roots
-          ∙ sym (roots-without s.heap.place s.heap.left taken s.roots root_stays);
-      stack = h.stack;
-    }
+      -- the names with a child that isn't old, since the start of the marking and after the verdict
+      abbrev pub mixed' : List ℕ
+      mixed' = with_names (mixed_names (took s kind taken)) history.mixed
+
+      pub settled_represents : HasGenerations s.graph place' (took s kind taken).collector mixed' w →
+          Represents (with_heap v w) (noted (took before kind taken))
+      settled_represents generations = record {
+        heap = record {
+          objects = objects_left;
+          corpses = corpses_left;
+          left = left_same;
+          pages = pages_same;
+          progress = progress_after;
+          counted = counted_after;
+        };
+        generations = generations;
+        colours = λ marking. absurd (sweeps_mark_none (pool_pages s.heap.pages) marking);
+        roots = resolved_roots-same v.heap w (λ word. resolved-settled marked kind word ∙ same.moves word) v.roots
+            ∙ h.roots
+            ∙ sym (roots-without s.heap.place s.heap.left taken s.roots root_stays);
+        stack = h.stack;
+      }

@@ -1,6 +1,6 @@
--- A store and an unprotected object change no count, and leave a heap quiescent in which nothing but a sweep is under way.
-use Rattle.std.proofs.Common.{◌≡◌, ◌≢◌, ◌&&◌, ℕ, true, refl, sym, ◌∙◌, ⊎_elim}
-use Rattle.space_model.specs.declared.phase.Phase.TheVariants.{Idle, Marking, Sweeping}
+-- A store and an unprotected object change no count, and leave a heap quiescent.
+use Rattle.std.proofs.Common.{◌≡◌, ◌≢◌, ◌&&◌, ℕ, true, refl, sym, ◌∙◌}
+use Rattle.space_model.specs.declared.phase.Phase.TheVariants.{Marking}
 use Rattle.space_heap.specs.Slots.{ObjectView}
 use Rattle.space_heap.specs.HeapView.{HeapView}
 use Rattle.space_heap.specs.Objects.{is_object, object_of, written}
@@ -10,14 +10,10 @@ use Rattle.space_heap.proofs.GoneLaws.{is_gone-with_object}
 use Rattle.space_heap.proofs.ObjectLaws.{occupied_from_object, stays, rest-with_object}
 use Rattle.space_barrier.specs.Barrier.{stored, unprotected}
 use Rattle.space_tracing.proofs.Same.{same_part}
-use Rattle.space_engine.specs.Turns.{IsAtRest, IsOneTurn}
+use Rattle.space_engine.specs.Turns.{IsOneTurn}
 use Rattle.space_engine.proofs.BarredStores.{IsBarred, stored_is}
-use Rattle.space_engine.proofs.TurnLaws.{IsAlike, quiescent_alike, rests_alike, work_uncounted}
+use Rattle.space_engine.proofs.TurnLaws.{IsAlike, turn_alike}
 use Rattle.space_engine.proofs.UnprotectedObjects.{OneChanged, unprotected_object, unprotected_keeps, unprotected_is, part_stays}
-
--- where no count changed, and the heaps are alike while nothing but a sweep is under way
-turn_resting : (v w : HeapView) → (IsAtRest v → IsAlike v w) → w.phase ≡ v.phase → w.counters ≡ v.counters → IsOneTurn v w
-turn_resting v w alike phase counters = work_uncounted 3 v w counters (λ q rests. quiescent_alike v w (alike rests) q) (rests_alike v w phase)
 
 -- a field of an object was written by the rules of the write barrier
 module _ (v : HeapView) (address index word : ℕ) (there : is_object v address ≡ true) where
@@ -33,34 +29,24 @@ module _ (v : HeapView) (address index word : ℕ) (there : is_object v address 
   phase_same : z.phase ≡ v.phase
   phase_same = barrier.same.phase ∙ (rest-with_object v address _).phase
 
-  not_marking : IsAtRest v → w.phase ≢ Marking
-  not_marking rests e =
-      ⊎_elim
-      (λ idle. idle_marking (sym idle ∙ sym (rest-with_object v address _).phase ∙ e))
-      (λ sweeping. sweeping_marking (sym sweeping ∙ sym (rest-with_object v address _).phase ∙ e))
-      rests
-    where
-      idle_marking : Idle ≢ Marking
-      idle_marking e = cc
-
-      sweeping_marking : Sweeping ≢ Marking
-      sweeping_marking e = cc
+  not_marking : v.phase ≢ Marking → w.phase ≢ Marking
+  not_marking rests e = rests (sym (rest-with_object v address _).phase ∙ e)
 
   gone_same : (a : ℕ) → is_gone z a ≡ is_gone w a
   gone_same a = λ i. barrier.same.standing a i && same_part (λ (o : ObjectView). o.gone) w z a barrier.same i
 
-  alike : IsAtRest v → IsAlike v z
-  alike rests = record {
+  alike : IsAlike v z
+  alike = record {
     phase = phase_same;
     unswept = barrier.same.unswept ∙ (rest-with_object v address _).unswept;
-    grey = barrier.grey (not_marking rests) ∙ (rest-with_object v address _).grey;
+    grey = λ rests. barrier.grey (not_marking rests) ∙ (rest-with_object v address _).grey;
     gone = λ a. gone_same a ∙ is_gone-with_object v address _ a refl;
     moved = λ a. barrier.same.away a ∙ is_moved-with_object v address _ a;
-    grey_was = λ a e. sym (barrier.colours (not_marking rests) a ∙ stays (λ (o : ObjectView). o.colour) v address _ a refl) ∙ e;
+    grey_was = λ rests a e. sym (barrier.colours (not_marking rests) a ∙ stays (λ (o : ObjectView). o.colour) v address _ a refl) ∙ e;
   }
 
   pub turn_stored : IsOneTurn v z
-  turn_stored = turn_resting v z alike phase_same (barrier.same.counters ∙ (rest-with_object v address _).counters)
+  turn_stored = turn_alike 3 v z alike (barrier.same.counters ∙ (rest-with_object v address _).counters)
 
 -- the write barrier stopped protecting an object
 module _ (v : HeapView) (address : ℕ) (there : is_object v address ≡ true) where
@@ -82,11 +68,11 @@ module _ (v : HeapView) (address : ℕ) (there : is_object v address ≡ true) w
       (unprotected_keeps (λ (o : ObjectView). o.colour) before refl refl)
 
   pub turn_unprotected : IsOneTurn v u
-  turn_unprotected = turn_resting v u (λ rests. record {
+  turn_unprotected = turn_alike 3 v u (record {
     phase = changed.rest.phase;
     unswept = changed.rest.unswept;
-    grey = changed.rest.grey;
+    grey = λ rests. changed.rest.grey;
     gone = λ a. λ i. changed.standing a i && gone_stays a i;
     moved = changed.moved;
-    grey_was = λ a e. sym (colour_stays a) ∙ e;
-  }) changed.rest.phase changed.rest.counters
+    grey_was = λ rests a e. sym (colour_stays a) ∙ e;
+  }) changed.rest.counters

@@ -1,65 +1,93 @@
--- How far a collection changes a heap's counts, and that nothing but a sweep is under way after it.
-use Rattle.std.proofs.Common.{◌≡◌, ◌≢◌, ℕ, ◌+◌, ◌≤◌, length, ap, ◌∙◌, List, arith, ⊎_elim}
+-- How far verdicts, and the sweeps before and after them, change a heap's counts, and that nothing but a sweep is under way after them.
+use Rattle.std.proofs.Common.{◌≡◌, ◌≢◌, ◌⊎◌, ℕ, ◌+◌, ◌≤◌, List, refl, ap, ◌∙◌, arith, ⊎_elim}
 use Rattle.space_model.specs.declared.event.Kind.{Kind}
-use Rattle.space_model.specs.declared.phase.Phase.TheVariants.{Idle, Sweeping}
+use Rattle.space_model.specs.declared.event.Kind.TheVariants.{Minor, Major, Full}
+use Rattle.space_model.specs.declared.phase.Phase.{Phase}
+use Rattle.space_model.specs.declared.phase.Phase.TheVariants.{Idle, Sweeping, Moving, Fixing}
 use Rattle.space_heap.specs.HeapView.{Counters, HeapView}
 use Rattle.space_heap.specs.Sweeping.{minors_after, others_after}
 use Rattle.space_collector.specs.HeapVerdicts.{IsHeapVerdict}
-use Rattle.space_collector.specs.PagesSwept.{LeavesRest}
-use Rattle.space_collector.specs.Quiescent.{IsQuiescent, CanCollect, most_slots}
+use Rattle.space_collector.specs.Quiescent.{IsQuiescent, most_slots, phase_before}
 use Rattle.space_collector.proofs.HeapVerdictLaws.{counters-verdict, count-verdict, limit-verdict, phase-verdict}
-use Rattle.space_collector.proofs.QuiescentLaws.{idle_not_sweeping}
-use Rattle.space_engine.specs.HeapCollections.{IsOneVerdict}
-use Rattle.space_engine.specs.Turns.{CanCompleteAndCollect}
+use Rattle.space_engine.specs.HeapCollections.{HasJudged}
 
--- u is the heap after the completion of v
-module _ (v u : HeapView) (rest : LeavesRest v u) where
-  counter : (f : Counters → ℕ) → f u.counters ≡ f (record v.counters { freed = u.counters.freed })
-  counter f = ap f rest.counters
+-- after a verdict pages wait for a sweep, or nothing is under way
+rests_settled : (phase : Phase) → (phase ≡ Idle) ⊎ (phase ≡ Sweeping) → (phase ≢ Moving) × (phase ≢ Fixing)
+rests_settled phase at = (λ e. ⊎_elim (λ idle. cc) (λ waits. cc) at, λ e. ⊎_elim (λ idle. cc) (λ waits. cc) at)
 
-  -- where what is under way was completed a collection can be done
-  pub can_collect : CanCompleteAndCollect v → (v.phase ≡ Sweeping → u.phase ≡ Idle) → (v.phase ≢ Sweeping → u ≡ v) → IsQuiescent u → CanCollect u
-  can_collect able ends stays quiescent =
-      let minors = counter (λ (c : Counters). c.minor_verdicts) in
-      let others = counter (λ (c : Counters). c.other_verdicts) in
-      let few_minors = able.minor_verdicts in
-      let few_others = able.other_verdicts in
+-- so many more verdicts of one kind than of none
+fewer_minors : (kind : Kind) (n : ℕ) → minors_after kind n ≤ n + 1
+fewer_minors Minor n = omega arith
+fewer_minors Major n = omega arith
+fewer_minors Full n = omega arith
+
+fewer_others : (kind : Kind) (n : ℕ) → others_after kind n ≤ n + 1
+fewer_others Minor n = omega arith
+fewer_others Major n = omega arith
+fewer_others Full n = omega arith
+
+-- no more was done than this and that together
+judged_both : (v u w : HeapView) (minors more_minors all_minors others more_others all_others slots more_slots all_slots : ℕ) →
+    HasJudged minors others slots v u → HasJudged more_minors more_others more_slots u w → minors + more_minors ≤ all_minors →
+    others + more_others ≤ all_others → slots + more_slots ≤ all_slots → HasJudged all_minors all_others all_slots v w
+judged_both v u w minors more_minors all_minors others more_others all_others slots more_slots all_slots first second few_minors few_others few_slots =
+    let old_minors = first.minor_verdicts in
+    let new_minors = second.minor_verdicts in
+    let old_others = first.other_verdicts in
+    let new_others = second.other_verdicts in
+    let old_slots = first.freed in
+    let new_slots = second.freed in
+    record {
+      born = second.born ∙ first.born;
+      minor_verdicts = omega arith;
+      other_verdicts = omega arith;
+      freed = omega arith;
+      page_count = second.page_count ∙ first.page_count;
+      limit = second.limit ∙ first.limit;
+      quiescent = second.quiescent;
+      rests = second.rests;
+    }
+
+-- a marking and its verdict: no slot is freed, no page comes or goes
+module _ (v w : HeapView) (kind : Kind) (roots stack : List ℕ) (scans : ℕ) (verdict : IsHeapVerdict v w kind roots stack scans)
+    (quiescent : IsQuiescent w) where
+  counter : (f : Counters → ℕ) → f w.counters ≡ f (record v.counters {
+    minor_verdicts = minors_after kind v.counters.minor_verdicts;
+    other_verdicts = others_after kind v.counters.other_verdicts;
+  })
+  counter f = ap f (counters-verdict v w kind roots stack scans verdict)
+
+  judged_by : (minors others : ℕ) → minors_after kind v.counters.minor_verdicts ≤ v.counters.minor_verdicts + minors →
+      others_after kind v.counters.other_verdicts ≤ v.counters.other_verdicts + others → HasJudged minors others 0 v w
+  judged_by minors others few_minors few_others =
+      let same_minors = counter (λ (c : Counters). c.minor_verdicts) in
+      let same_others = counter (λ (c : Counters). c.other_verdicts) in
+      let same_freed = counter (λ (c : Counters). c.freed) in
       record {
-        quiescent = quiescent;
-        idle = ⊎_elim (λ idle. ap (λ (w : HeapView). w.phase) (stays (idle_not_sweeping v.phase idle)) ∙ idle) ends able.rests;
+        born = counter (λ (c : Counters). c.born);
         minor_verdicts = omega arith;
         other_verdicts = omega arith;
+        freed = omega arith;
+        page_count = count-verdict v w kind roots stack scans verdict;
+        limit = limit-verdict v w kind roots stack scans verdict;
+        quiescent = quiescent;
+        rests = rests_settled w.phase (phase-verdict v w kind roots stack scans verdict);
       }
 
-  -- z is the heap after the verdict
-  module _ (z : HeapView) (kind : Kind) (roots stack : List ℕ) (scans : ℕ) (verdict : IsHeapVerdict u z kind roots stack scans) where
-    -- no slot was freed by the verdict
-    settled_counter : (f : Counters → ℕ) → f z.counters ≡ f (record v.counters {
-      minor_verdicts = minors_after kind v.counters.minor_verdicts;
-      other_verdicts = others_after kind v.counters.other_verdicts;
-      freed = u.counters.freed;
-    })
-    settled_counter f =
-        ap f (counters-verdict u z kind roots stack scans verdict)
-        ∙ ap (λ (c : Counters). f (record c {
-          minor_verdicts = minors_after kind c.minor_verdicts;
-          other_verdicts = others_after kind c.other_verdicts;
-        })) rest.counters
+  -- one verdict was done, of whichever count
+  one_judged : HasJudged 1 1 0 v w
+  one_judged = judged_by 1 1 (fewer_minors kind v.counters.minor_verdicts) (fewer_others kind v.counters.other_verdicts)
 
-    -- no page comes or goes
-    pub pages_collected : length z.pages ≡ length v.pages
-    pages_collected = count-verdict u z kind roots stack scans verdict ∙ rest.page_count
+  -- after a completion it makes a collection
+  pub collection_judged : (before : HeapView) → HasJudged 0 1 most_slots before v → HasJudged 1 2 most_slots before w
+  collection_judged before first = judged_both before v w 0 1 1 1 1 2 most_slots 0 most_slots first one_judged (omega arith) (omega arith) (omega arith)
 
-    pub limit_collected : z.limit ≡ v.limit
-    limit_collected = limit-verdict u z kind roots stack scans verdict ∙ rest.limit
+-- the end of a marking
+pub major_judged : (v w : HeapView) (roots stack : List ℕ) (scans : ℕ) → IsHeapVerdict v w Major roots stack scans → IsQuiescent w → HasJudged 0 1 0 v w
+major_judged v w roots stack scans verdict quiescent = judged_by v w Major roots stack scans verdict quiescent 0 1 (omega arith) (omega arith)
 
-    -- one verdict was done
-    pub one_verdict : u.counters.freed ≤ v.counters.freed + most_slots → IsQuiescent z → IsOneVerdict v z kind
-    one_verdict most quiescent = record {
-      born = settled_counter (λ (c : Counters). c.born);
-      minor_verdicts = settled_counter (λ (c : Counters). c.minor_verdicts);
-      other_verdicts = settled_counter (λ (c : Counters). c.other_verdicts);
-      freed = let same = settled_counter (λ (c : Counters). c.freed) in omega (arith, same, most);
-      quiescent = quiescent;
-      rests = phase-verdict u z kind roots stack scans verdict;
-    }
+-- where nothing is under way a marking of each other kind may begin
+pub begins_idle : (kind : Kind) (phase : Phase) → kind ≢ Major → phase ≡ Idle → phase ≡ phase_before kind
+begins_idle Minor phase other idle = idle
+begins_idle Major phase other idle = absurd (other refl)
+begins_idle Full phase other idle = idle

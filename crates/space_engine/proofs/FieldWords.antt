@@ -21,7 +21,7 @@ use Rattle.space_model.specs.State.{State}
 use Rattle.space_model.proofs.MapLaws.{some_get}
 use Rattle.space_model.proofs.StackWords.{slot_address-even, slot_address-some}
 use Rattle.space_model.proofs.ValuesHold.{operand_holds}
-use Rattle.space_model.proofs.ValuesKept.{IsPresentValue, name_present, present_kept}
+use Rattle.space_model.proofs.ValuesKept.{IsPresentValue, name_present, placed_present, present_kept}
 use Rattle.space_heap.specs.Objects.{is_object, object_of, resolved}
 use Rattle.space_engine.specs.Stands.{Holds}
 use Rattle.space_model.specs.StoredWords.{stored_word}
@@ -107,7 +107,7 @@ module _ (v : View) (s : State) (h : Holds v s) where
                     ∙ get_or-map_from (stored_word s.heap.place s.heap.left s.collector.stale name) 0 index values here.1
                     ∙ ap (λ k. stored_word s.heap.place s.heap.left s.collector.stale name k (get_or values index Nil)) (omega arith))
                     ∙ stored_resolved v s h name index (get_or values index Nil) (slice_get-get_or values index Nil here.1)
-                    ((present_kept s h.sound).field name index (get_or values index Nil) ((present_kept s h.sound).named address name at)
+                    ((present_kept s h.sound).field name index (get_or values index Nil) (placed_present s.heap.place name address at)
                     (slice_get-get_or values index Nil here.1)));
               },
         ))

@@ -1,5 +1,5 @@
 -- The heap's words against names, where no object was moved: children, ages, and what a minor marking rests on.
-use Rattle.std.proofs.Common.{◌≡◌, ℕ, ◌&&◌, Bool, true, false, true≢false, nat_le, nat_lt, min, List, [], ◌∷◌, nat_eq, refl, sym, ap, ◌∙◌, subst, arith, Some, ⊎_elim, inl, if◌then◌else◌}
+use Rattle.std.proofs.Common.{◌≡◌, ◌≢◌, ℕ, ◌&&◌, Bool, true, false, true≢false, nat_le, nat_lt, min, List, [], ◌∷◌, nat_eq, refl, sym, ap, ◌∙◌, subst, arith, Some, ⊎_elim, inl, if◌then◌else◌}
 use Rattle.std.specs.Ordering.{nat_cmp}
 use Rattle.std.specs.Set.{is_member}
 use Rattle.std.specs.FinMap.{FinMap, get, empty}
@@ -8,6 +8,8 @@ use Rattle.std.proofs.lemmas.Bool.Decides.{nat_tests}
 use Rattle.space_model.specs.declared.event.Kind.{Kind}
 use Rattle.space_model.specs.declared.event.Kind.TheVariants.{Minor, Major, Full}
 use Rattle.space_model.specs.declared.object.Guard.{Guard}
+use Rattle.space_model.specs.declared.phase.Phase.{Phase}
+use Rattle.space_model.specs.declared.phase.Phase.TheVariants.{Marking}
 use Rattle.space_model.specs.Ages.{is_protected_guard, is_protected, outlived_by, is_old_in}
 use Rattle.space_model.specs.Graph.{Item, item_of, IsChild}
 use Rattle.space_model.specs.State.{State}
@@ -15,16 +17,19 @@ use Rattle.space_heap.specs.HeapView.{HeapView}
 use Rattle.space_heap.specs.Objects.{is_occupied, is_object, object_of}
 use Rattle.space_heap.specs.Generations.{is_old, is_aged, is_young_word, is_protected_at}
 use Rattle.space_heap.specs.Sweeping.{HasNoGone}
-use Rattle.space_heap.proofs.Coherence.{object_of_none}
+use Rattle.space_heap.proofs.Coherence.{object_of_none, occupied_from_colour}
 use Rattle.space_heap.proofs.SettledLaws.{none_gone}
 use Rattle.space_tracing.specs.Graph as heap
 use Rattle.space_tracing.specs.Scans.{is_any_young, has_young_child, fields_of}
+use Rattle.space_tracing.specs.Marking.{IsMarked}
+use Rattle.space_major.specs.Incremental.{IsTricolour}
 use Rattle.space_minor.specs.Minors.{IsOldOrKept, IsGenerational}
 use Rattle.space_collector.specs.KindMarkings.{IsReadyFor}
 use Rattle.space_engine.specs.Generations.{HasAges}
 use Rattle.space_engine.specs.Stands.{Holds}
 use Rattle.space_engine.specs.Views.{View}
 use Rattle.space_engine.proofs.GenerationLists.{is_old_in-at}
+use Rattle.space_engine.proofs.KindNotes.{black_marked}
 use Rattle.space_engine.proofs.Outcomes.{some_same}
 use Rattle.space_engine.proofs.Reaching.{child_live, child_reached}
 
@@ -37,6 +42,12 @@ held_stands v a h = ⊎_elim
     (λ kept. true≢false (sym kept ∙ ap (λ o. o.kept) (object_of_none v a f)))
     h))
     (cases_Bool (is_occupied v a))
+
+-- a verdict of kind Major ends the marking that goes on, and those of the other kinds are given where none does
+abbrev pub IsJudgedIn : Kind → Phase → Type 0
+IsJudgedIn Minor phase = phase ≢ Marking
+IsJudgedIn Major phase = phase ≡ Marking
+IsJudgedIn Full phase = phase ≢ Marking
 
 -- what ages say of the verdicts that were outlived
 
@@ -127,15 +138,28 @@ module _ (v : View) (s : State) (h : Holds v s) (unmoved : s.heap.left ≡ empty
     pub held_named : (a : ℕ) → IsOldOrKept v.heap a → get s.heap.place (object_of v.heap a).name ≡ Some a
     held_named a held = h.represents.heap.objects.only a (sym (none_gone v.heap a clean) ∙ held_stands v.heap a held)
 
-    -- the old objects that aren't remembered have only old and kept children
-    pub generational : IsGenerational v.heap
-    generational m n old forgotten child =
+    -- outside a marking the old objects that aren't remembered have only old and kept children
+    pub generational : s.collector.phase ≢ Marking → IsGenerational v.heap
+    generational rests m n old forgotten child =
         let at = held_named m (inl old) in
         let r = child_reached v s h unmoved fresh m n (object_of v.heap m).name at child in
-        h.represents.generations.old_children (object_of v.heap m).name r.0 m n at r.1 r.2 old forgotten
+        h.represents.generations.old_children rests (object_of v.heap m).name r.0 m n at r.1 r.2 old forgotten
 
-    -- so a marking of any kind may begin
-    pub ready : (kind : Kind) → IsReadyFor kind v.heap
-    ready Minor = generational
-    ready Major = tt
-    ready Full = tt
+    -- a marked object has a name
+    pub marked_named : (a : ℕ) → IsMarked v.heap a → get s.heap.place (object_of v.heap a).name ≡ Some a
+    marked_named a m = h.represents.heap.objects.only a (sym (none_gone v.heap a clean) ∙ occupied_from_colour v.heap a m)
+
+    -- in a marking no protected black object has a white child
+    pub tricolour : s.collector.phase ≡ Marking → IsTricolour v.heap
+    tricolour marking m n black guard child =
+        let colours = h.represents.colours marking in
+        let name : ℕ = (object_of v.heap m).name in
+        let at = marked_named m (black_marked v.heap m black) in
+        let r = child_reached v s h unmoved fresh m n name at child in
+        colours.children name r.0 m n at r.1 r.2 (sym (guard_at name m at) ∙ guard) black
+
+    -- so a marking of any kind may begin, or end
+    pub ready : (kind : Kind) → IsJudgedIn kind s.collector.phase → IsReadyFor kind v.heap
+    ready Minor rests = generational rests
+    ready Major marking = tricolour marking
+    ready Full rests = tt

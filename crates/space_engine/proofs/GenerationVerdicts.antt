@@ -4,22 +4,27 @@ use Rattle.std.specs.Prelude.{is_some}
 use Rattle.std.specs.Ordering.{nat_cmp}
 use Rattle.std.specs.Set.{is_member}
 use Rattle.std.specs.FinMap.{FinMap, get, empty}
-use Rattle.std.proofs.lemmas.Bool.{cases_Bool, and_parts, and_from, or_cases, or_left, or_right, cond-false, false_from_ne_true}
+use Rattle.std.proofs.lemmas.Bool.{cases_Bool, and_parts, and_from, or_cases, or_left, or_right, cond-false}
 use Rattle.std.proofs.lemmas.Bool.Decides.{nat_tests}
 use Rattle.space_model.specs.declared.event.Kind.{Kind}
 use Rattle.space_model.specs.declared.event.Kind.TheVariants.{Minor, Major, Full}
 use Rattle.space_model.specs.declared.object.Guard.{Guard}
 use Rattle.space_model.specs.declared.object.Guard.TheVariants.{Protected, Unprotected}
+use Rattle.space_model.specs.declared.phase.Phase.{Phase}
+use Rattle.space_model.specs.declared.phase.Phase.TheVariants.{Marking}
 use Rattle.space_model.specs.Ages.{is_protected_guard, is_protected, outlived_by, is_old_in, aged}
 use Rattle.space_model.specs.Graph.{Item, item_of, IsChild}
 use Rattle.space_model.specs.Kept.{unprotected_children, present_of, kept_after_verdict, vague_after_verdict}
 use Rattle.space_model.specs.Maps.{without}
 use Rattle.space_model.specs.Markings.{took}
 use Rattle.space_model.specs.Moments.{mixed_names, with_names}
+use Rattle.space_model.specs.Pages.{pool_pages}
+use Rattle.space_model.specs.Sound.{Sound}
 use Rattle.space_model.specs.State.{State}
 use Rattle.space_model.specs.Verdicts.{IsVerdict}
 use Rattle.space_model.proofs.AgeLaws.{aged-by}
 use Rattle.space_model.proofs.MapLaws.{get-without, held_without, some_get}
+use Rattle.space_model.proofs.MarkingKept.{sweeps_mark_none}
 use Rattle.space_model.proofs.Members.{member_filter}
 use Rattle.space_model.proofs.NotedLaws.{member-with_names}
 use Rattle.space_heap.specs.Slots.{ObjectView}
@@ -29,9 +34,7 @@ use Rattle.space_heap.specs.Objects.{object_of}
 use Rattle.space_heap.specs.Generations.{is_old, is_aged, raised_age, is_protected_at}
 use Rattle.space_heap.specs.Sweeping.{is_white, settled, HasNoGone}
 use Rattle.space_heap.proofs.Coherence.{occupied_from_colour}
-use Rattle.space_heap.proofs.MarkingLaws.{White-from_is_white}
 use Rattle.space_heap.proofs.SettledLaws.{object_of-settled, stays-settled}
-use Rattle.space_tracing.specs.Graph.{SameGraph}
 use Rattle.space_tracing.specs.Graph as heap
 use Rattle.space_tracing.specs.Marking.{IsMarked}
 use Rattle.space_tracing.specs.Scans.{has_young_child}
@@ -43,12 +46,11 @@ use Rattle.space_roots.specs.WordRoots.{root_words}
 use Rattle.space_engine.specs.Generations.{HasAges, HasKept, HasRemembered, HasOldChildren, HasGenerations}
 use Rattle.space_engine.specs.Stands.{Holds}
 use Rattle.space_engine.specs.Views.{View}
-use Rattle.space_engine.proofs.AfterVerdicts.{taken_at}
+use Rattle.space_engine.proofs.AfterVerdicts.{taken_at, marked_stays, stays_marked}
 use Rattle.space_engine.proofs.GenerationLists.{is_old_in-present, HasOldParent, unprotected_children-found, unprotected_children-from, mixed_in-from}
-use Rattle.space_engine.proofs.GenerationNames.{is_old-named, young_child, aged_child, child_at, guard_at, ready}
+use Rattle.space_engine.proofs.GenerationNames.{IsJudgedIn, is_old-named, young_child, aged_child, child_at, guard_at, ready}
 use Rattle.space_engine.proofs.KindNotes.{KindNotes, kind_notes, IsPassedOver, scan_cases, scanned_marked, marked_object}
 use Rattle.space_engine.proofs.Reaching.{child_reached}
-use Rattle.space_engine.proofs.WholeVerdicts.{not_white}
 
 -- ages, one verdict later
 
@@ -67,16 +69,16 @@ aged_raised : (guard : Guard) (age : ℕ) → nat_le 2 age ≡ true → nat_le 2
 aged_raised Protected age e = grind (arith, nat_tests, e)
 aged_raised Unprotected age e = e
 
--- the kept names after a verdict: unprotected children of old names, and after a minor one those that were kept before
+-- the kept names after a verdict: unprotected children of old names after one that ends no marking, and those that were kept before
 module _ (graph : List Item) (place : FinMap nat_cmp ℕ) (outlived names : List ℕ) (n : ℕ) where
-  kept_listed : (kind : Kind) → kind ≢ Major → is_member nat_eq (kept_after_verdict kind graph place outlived names) n ≡ true →
-      (is_member nat_eq (unprotected_children graph place outlived) n ≡ true) ⊎ ((kind ≡ Minor) × (is_member nat_eq names n ≡ true))
-  kept_listed Minor other m = ⊎_elim
-      (λ child. inl child)
-      (λ still. inr (refl, (and_parts _ _ (sym (member_filter (λ name. is_some (get place name)) names n) ∙ still)).0))
+  kept_listed : (kind : Kind) → is_member nat_eq (kept_after_verdict kind graph place outlived names) n ≡ true →
+      ((kind ≢ Major) × (is_member nat_eq (unprotected_children graph place outlived) n ≡ true)) ⊎ ((kind ≢ Full) × (is_member nat_eq names n ≡ true))
+  kept_listed Minor m = ⊎_elim
+      (λ child. inl ((λ e. cc), child))
+      (λ still. inr ((λ e. cc), (and_parts _ _ (sym (member_filter (λ name. is_some (get place name)) names n) ∙ still)).0))
       (or_cases _ _ (sym (member-with_names (unprotected_children graph place outlived) (present_of place names) n) ∙ m))
-  kept_listed Major other m = absurd (other refl)
-  kept_listed Full other m = inl m
+  kept_listed Major m = inr ((λ e. cc), (and_parts _ _ (sym (member_filter (λ name. is_some (get place name)) names n) ∙ m)).0)
+  kept_listed Full m = inl ((λ e. cc), m)
 
   listed_child : (kind : Kind) → kind ≢ Major → is_member nat_eq (unprotected_children graph place outlived) n ≡ true →
       is_member nat_eq (kept_after_verdict kind graph place outlived names) n ≡ true
@@ -84,16 +86,36 @@ module _ (graph : List Item) (place : FinMap nat_cmp ℕ) (outlived names : List
   listed_child Major other m = absurd (other refl)
   listed_child Full other m = m
 
-  listed_before : (kind : Kind) → kind ≡ Minor → (vague : ℕ) → vague_after_verdict kind vague ≡ 0 → is_some (get place n) ≡ true →
+  listed_before : (kind : Kind) → kind ≢ Major → kind ≢ Full → (vague : ℕ) → vague_after_verdict kind vague ≡ 0 → is_some (get place n) ≡ true →
       (vague ≡ 0 → is_member nat_eq names n ≡ true) → is_member nat_eq (kept_after_verdict kind graph place outlived names) n ≡ true
-  listed_before Minor is vague sure present before =
+  listed_before Minor not_major not_full vague sure present before =
       member-with_names (unprotected_children graph place outlived) (present_of place names) n
       ∙ or_right _ _ (member_filter (λ name. is_some (get place name)) names n ∙ and_from _ _ (before sure) present)
-  listed_before Major is vague sure present before = absurd (cc)
-  listed_before Full is vague sure present before = absurd (cc)
+  listed_before Major not_major not_full vague sure present before = absurd (not_major refl)
+  listed_before Full not_major not_full vague sure present before = absurd (not_full refl)
 
+-- where a verdict leaves only names that are kept for certain, it ended no marking
+only_certain : (s : State) (kind : Kind) → Sound s → IsJudgedIn kind s.collector.phase → vague_after_verdict kind s.collector.vague ≡ 0 → kind ≢ Major
+only_certain s Minor sound rests sure e = cc
+only_certain s Major sound marking sure e = let open_kept = (sound.marking marking).open_kept in omega (arith, sure, open_kept)
+only_certain s Full sound rests sure e = cc
+
+-- whether a marking goes on before the verdict, by its kind
+rests_in : (kind : Kind) (phase : Phase) → kind ≡ Minor → IsJudgedIn kind phase → phase ≢ Marking
+rests_in Minor phase is at = at
+rests_in Major phase is at = absurd (cc)
+rests_in Full phase is at = absurd (cc)
+
+marks_in : (kind : Kind) (phase : Phase) → kind ≡ Major → IsJudgedIn kind phase → phase ≡ Marking
+marks_in Minor phase is at = absurd (cc)
+marks_in Major phase is at = at
+marks_in Full phase is at = absurd (cc)
+
+-- of a marking of any kind and its verdict. The names that had a child that isn't old were noted anew as it began, or are those of the state
+-- where it began before
 module _ (v : View) (s : State) (h : Holds v s) (clean : HasNoGone v.heap) (unmoved : s.heap.left ≡ empty) (fresh : s.collector.stale ≡ [])
-    (marked : HeapView) (kind : Kind) (other : kind ≢ Major) (scans : ℕ) (c : IsKindMarking v.heap marked kind (root_words v.roots) v.stack scans)
+    (marked : HeapView) (kind : Kind) (at : IsJudgedIn kind s.collector.phase) (mixed : List ℕ) (goes_on : kind ≡ Major → mixed ≡ s.history.mixed)
+    (scans : ℕ) (c : IsKindMarking v.heap marked kind (root_words v.roots) v.stack scans)
     (verdict : IsVerdict s kind (gone_names (settled marked kind))) where
   abbrev w : HeapView
   w = settled marked kind
@@ -110,12 +132,16 @@ module _ (v : View) (s : State) (h : Holds v s) (clean : HasNoGone v.heap) (unmo
   abbrev IsScanned : ℕ → Type 0
   IsScanned a = IsScannedBy kind v.heap marked (root_words v.roots) v.stack a
 
-  -- the names that had a child that wasn't old, at the start of the marking or after the verdict
+  -- the names that had a child that wasn't old, since the start of the marking or after the verdict
   abbrev mixed' : List ℕ
-  mixed' = with_names (mixed_names (took s kind taken)) (mixed_names s)
+  mixed' = with_names (mixed_names (took s kind taken)) mixed
 
   notes : KindNotes v.heap marked kind IsScanned
   notes = kind_notes v.heap marked kind IsScanned c.notes
+
+  -- the marking passed over the object
+  abbrev IsOver : ℕ → Type 0
+  IsOver a = IsPassedOver v.heap marked kind (root_words v.roots) v.stack a
 
   -- the names that are left
 
@@ -131,17 +157,21 @@ module _ (v : View) (s : State) (h : Holds v s) (clean : HasNoGone v.heap) (unmo
       sym (taken_at v s h.represents clean marked c.same kind n a held.0) ∙ held.1
 
   marked_at : (n a : ℕ) → get place' n ≡ Some a → IsMarked marked a
-  marked_at n a e = not_white (colour_of marked a) (not_white_at n a e)
+  marked_at n a e =
+      let held = held_without s.heap.place taken n a e in
+      stays_marked v s h.represents clean marked c.same kind n a held.0 held.1
 
-  marked_stays : (n a : ℕ) → get s.heap.place n ≡ Some a → IsMarked marked a → get place' n ≡ Some a
-  marked_stays n a e m = stays n a e (taken_at v s h.represents clean marked c.same kind n a e
-      ∙ false_from_ne_true _ (λ t. m (White-from_is_white (colour_of marked a) t)))
+  scan_or_over : (n a : ℕ) → get place' n ≡ Some a → IsScanned a ⊎ IsOver a
+  scan_or_over n a e = scan_cases v.heap marked kind (root_words v.roots) v.stack scans c clean a (marked_at n a e)
+
+  stays_where : (n a : ℕ) → get s.heap.place n ≡ Some a → IsMarked marked a → get place' n ≡ Some a
+  stays_where n a e m = stays n a e (marked_stays v s h.represents clean marked c.same kind n a e m)
 
   -- what is scanned is left
   scanned_stays : (a : ℕ) → IsScanned a → get place' (object_of v.heap a).name ≡ Some a
   scanned_stays a is =
-      let m = scanned_marked v.heap marked kind (root_words v.roots) v.stack scans c (ready v s h unmoved fresh clean kind) a is in
-      marked_stays (object_of v.heap a).name a (h.represents.heap.objects.only a (marked_object v.heap marked c.same clean a m)) m
+      let m = scanned_marked v.heap marked kind (root_words v.roots) v.stack scans c (ready v s h unmoved fresh clean kind at) a is in
+      stays_where (object_of v.heap a).name a (h.represents.heap.objects.only a (marked_object v.heap marked c.same clean a m)) m
 
   -- a child by address is one by name, and is left
   child_named : (p a b : ℕ) → get place' p ≡ Some a → heap.IsChild v.heap a b → (n : ℕ) × (get place' n ≡ Some b) × IsChild s.graph p n
@@ -218,16 +248,26 @@ module _ (v : View) (s : State) (h : Holds v s) (clean : HasNoGone v.heap) (unmo
   mixed_parent n a e y =
       let young = young_child v.heap a y in
       let its = child_named n a young.at e young.child in
-      member-with_names (mixed_names (took s kind taken)) (mixed_names s) n
+      member-with_names (mixed_names (took s kind taken)) mixed n
       ∙ or_left _ _ (mixed_in-from s.graph place' outlived' n its.0 (ap is_some e) its.2 (old_name_after its.0 young.at its.1 ∙ young.young))
+
+  -- what the marking passed over was remembered before
+  passed_mixed : (n a : ℕ) → get place' n ≡ Some a → IsOver a → (object_of marked a).remembered ≡ true → is_member nat_eq mixed' n ≡ true
+  passed_mixed n a e over r =
+      let before = notes.other a over.unscanned r in
+      ⊎_elim
+      (λ (is, old). absurd (true≢false (sym before ∙ old.forgotten)))
+      (λ (is, black).
+      member-with_names (mixed_names (took s kind taken)) mixed n
+      ∙ or_right _ _ (ap (λ names. is_member nat_eq names n) (goes_on is) ∙ h.represents.generations.remembered.mixed_since n a (was n a e) before))
+      over.why
 
   mixed_remembered : (n a : ℕ) → get place' n ≡ Some a → (object_of marked a).remembered ≡ true →
       is_member nat_eq mixed' n ≡ true
   mixed_remembered n a e r = ⊎_elim
       (λ is. mixed_parent n a e (sym (notes.scanned a is (aged_remembered n a e r)) ∙ r))
-      (λ (over : IsPassedOver v.heap marked kind (root_words v.roots) v.stack a).
-      absurd (true≢false (sym (notes.other a over.unscanned r) ∙ over.forgotten)))
-      (scan_cases v.heap marked kind (root_words v.roots) v.stack scans c a (marked_at n a e))
+      (λ over. passed_mixed n a e over r)
+      (scan_or_over n a e)
 
   remembered : HasRemembered place' mixed' w
   remembered = record {
@@ -243,20 +283,41 @@ module _ (v : View) (s : State) (h : Holds v s) (clean : HasNoGone v.heap) (unmo
   guard_named : (n a : ℕ) → get place' n ≡ Some a → is_protected_at v.heap a ≡ is_protected s.graph n
   guard_named n a e = guard_at v s h unmoved fresh n a (was n a e)
 
-  held_child : (p n a b : ℕ) → get place' p ≡ Some a → get place' n ≡ Some b → IsChild s.graph p n →
-      IsPassedOver v.heap marked kind (root_words v.roots) v.stack a → (is_old (object_of v.heap b) ≡ true) ⊎ ((object_of v.heap b).kept ≡ true)
-  held_child p n a b e f child over =
-      h.represents.generations.old_children p n a b (was p a e) (was n b f) child over.old_object over.forgotten
+  aged_old : (o : ObjectView) → is_old o ≡ true → is_aged o ≡ true
+  aged_old o e = let three = (and_parts (is_protected_guard o.guard) _ e).1 in grind (arith, nat_tests, three)
+
+  -- so it hasn't age 2 or more
+  young_free : (n b : ℕ) → get place' n ≡ Some b → is_protected s.graph n ≡ false → is_aged (object_of v.heap b) ≡ false
+  young_free n b f free = ap (nat_le 2) (young_unprotected n b f (guard_named n b f ∙ free))
+
+  -- the children of what the marking passed over have age 2 or more or are kept
+  held_child : (p n a b : ℕ) → get place' p ≡ Some a → get place' n ≡ Some b → IsChild s.graph p n → is_aged (object_of v.heap a) ≡ true →
+      (kind ≡ Major → (object_of marked a).remembered ≡ false) → IsOver a →
+      (is_aged (object_of v.heap b) ≡ true) ⊎ ((object_of v.heap b).kept ≡ true)
+  held_child p n a b e f child old forgotten over = ⊎_elim
+      (λ (is, over_old). ⊎_elim
+      (λ o. inl (aged_old (object_of v.heap b) o))
+      (λ k. inr k)
+      (h.represents.generations.old_children (rests_in kind s.collector.phase is at) p n a b (was p a e) (was n b f) child over_old.old_object
+      over_old.forgotten))
+      (λ (is, black).
+      h.represents.generations.aged_children (marks_in kind s.collector.phase is at) p n a b (was p a e) (was n b f) child black.black old
+      (sym (notes.other_major a is over.unscanned) ∙ forgotten is))
+      over.why
+
+  -- a whole marking passes over none
+  over_not_full : (a : ℕ) → IsOver a → kind ≢ Full
+  over_not_full a over e = ⊎_elim (λ (is, old). cc) (λ (is, black). cc) over.why
 
   child_kept : (p n a b : ℕ) → get place' p ≡ Some a → get place' n ≡ Some b → IsChild s.graph p n → is_aged (object_of v.heap a) ≡ true →
-      is_protected s.graph n ≡ false → (object_of marked b).kept ≡ true
-  child_kept p n a b e f child old free = ⊎_elim
+      (kind ≡ Major → (object_of marked a).remembered ≡ false) → is_protected s.graph n ≡ false → (object_of marked b).kept ≡ true
+  child_kept p n a b e f child old forgotten free = ⊎_elim
       (λ is. notes.kept_now a b is (record { aged = old; child = child_of p n a b e f child; unprotected = guard_named n b f ∙ free }))
       (λ over. ⊎_elim
-      (λ o. absurd (true≢false (sym (and_parts (is_protected_at v.heap b) _ o).0 ∙ guard_named n b f ∙ free)))
-      (λ k. notes.kept_before b over.minor k)
-      (held_child p n a b e f child over))
-      (scan_cases v.heap marked kind (root_words v.roots) v.stack scans c a (marked_at p a e))
+      (λ o. absurd (true≢false (sym o ∙ young_free n b f free)))
+      (λ k. notes.kept_before b (over_not_full a over) k)
+      (held_child p n a b e f child old forgotten over))
+      (scan_or_over p a e)
 
   -- and its protected ones are old after the verdict, where it isn't remembered
   child_old : (p n a b : ℕ) → get place' p ≡ Some a → get place' n ≡ Some b → IsChild s.graph p n → is_aged (object_of v.heap a) ≡ true →
@@ -265,13 +326,10 @@ module _ (v : View) (s : State) (h : Holds v s) (clean : HasNoGone v.heap) (unmo
   child_old p n a b e f child old forgotten guard = ⊎_elim
       (λ is. inl (old_after n b f ∙ aged_child v.heap a b (sym (notes.scanned a is old) ∙ forgotten) (child_of p n a b e f child) (guard_named n b f ∙ guard)))
       (λ over. ⊎_elim
-      (λ o. inl (old_after n b f ∙ aged_old (object_of v.heap b) o))
-      (λ k. inr (kept_stays b ∙ notes.kept_before b over.minor k))
-      (held_child p n a b e f child over))
-      (scan_cases v.heap marked kind (root_words v.roots) v.stack scans c a (marked_at p a e))
-    where
-      aged_old : (o : ObjectView) → is_old o ≡ true → is_aged o ≡ true
-      aged_old o e = let three = (and_parts (is_protected_guard o.guard) _ e).1 in grind (arith, nat_tests, three)
+      (λ o. inl (old_after n b f ∙ o))
+      (λ k. inr (kept_stays b ∙ notes.kept_before b (over_not_full a over) k))
+      (held_child p n a b e f child old (λ is. forgotten) over))
+      (scan_or_over p a e)
 
   old_children : HasOldChildren s.graph place' w
   old_children p n a b e f child old forgotten =
@@ -279,29 +337,29 @@ module _ (v : View) (s : State) (h : Holds v s) (clean : HasNoGone v.heap) (unmo
       let no_more : (object_of marked a).remembered ≡ false = sym (remembered_stays a) ∙ forgotten in
       ⊎_elim
       (λ guard. child_old p n a b e f child was_aged no_more guard)
-      (λ free. inr (kept_stays b ∙ child_kept p n a b e f child was_aged free))
+      (λ free. inr (kept_stays b ∙ child_kept p n a b e f child was_aged (λ is. no_more) free))
       (cases_Bool (is_protected s.graph n))
 
   -- what is kept
 
-  children_kept : (n b : ℕ) → get place' n ≡ Some b → HasOldParent s.graph place' outlived' n → (object_of marked b).kept ≡ true
-  children_kept n b f p =
-      let at = some_get (get place' p.parent) (is_old_in-present s.graph place' outlived' p.parent p.old) in
-      child_kept p.parent n at.0 b at.1 f p.child (sym (old_name_after p.parent at.0 at.1) ∙ p.old) p.unprotected
+  children_kept : kind ≢ Major → (n b : ℕ) → get place' n ≡ Some b → HasOldParent s.graph place' outlived' n → (object_of marked b).kept ≡ true
+  children_kept other n b f p =
+      let from = some_get (get place' p.parent) (is_old_in-present s.graph place' outlived' p.parent p.old) in
+      child_kept p.parent n from.0 b from.1 f p.child (sym (old_name_after p.parent from.0 from.1) ∙ p.old) (λ is. absurd (other is)) p.unprotected
 
-  -- a kept object was kept before a minor marking, or is an unprotected child of an old name
+  -- a kept object was kept before a marking that isn't a whole one, or is an unprotected child of an old name
   kept_cases : (n b : ℕ) → get place' n ≡ Some b → (object_of marked b).kept ≡ true →
-      ((kind ≡ Minor) × ((object_of v.heap b).kept ≡ true)) ⊎ HasOldParent s.graph place' outlived' n
+      ((kind ≢ Full) × ((object_of v.heap b).kept ≡ true)) ⊎ HasOldParent s.graph place' outlived' n
   kept_cases n b f k = ⊎_elim
       (λ before. inl before)
       (λ (m, is, keeper).
-      let at = scanned_stays m is in
-      let its = child_named (object_of v.heap m).name m b at keeper.child in
+      let from = scanned_stays m is in
+      let its = child_named (object_of v.heap m).name m b from keeper.child in
       inr (record {
         present = ap is_some f;
         unprotected = sym (guard_named n b f) ∙ keeper.unprotected;
         parent = (object_of v.heap m).name;
-        old = old_name_after (object_of v.heap m).name m at ∙ keeper.aged;
+        old = old_name_after (object_of v.heap m).name m from ∙ keeper.aged;
         child = subst (IsChild s.graph (object_of v.heap m).name) (h.sound.layout.placed.once its.0 n b (was its.0 b its.1) (was n b f)) its.2;
       }))
       (notes.kept_only b k)
@@ -320,13 +378,15 @@ module _ (v : View) (s : State) (h : Holds v s) (clean : HasNoGone v.heap) (unmo
 
   kept_certain : (n b : ℕ) → get place' n ≡ Some b → is_member nat_eq kept' n ≡ true → (object_of marked b).kept ≡ true
   kept_certain n b f m = ⊎_elim
-      (λ child. children_kept n b f (unprotected_children-found s.graph place' outlived' n child))
-      (λ (is, before). notes.kept_before b is (h.represents.generations.kept.certain n b (was n b f) before))
-      (kept_listed s.graph place' outlived' s.collector.kept n kind other m)
+      (λ (other, child). children_kept other n b f (unprotected_children-found s.graph place' outlived' n child))
+      (λ (not_full, before). notes.kept_before b not_full (h.represents.generations.kept.certain n b (was n b f) before))
+      (kept_listed s.graph place' outlived' s.collector.kept n kind m)
 
   kept_known : vague' ≡ 0 → (n b : ℕ) → get place' n ≡ Some b → (object_of marked b).kept ≡ true → is_member nat_eq kept' n ≡ true
-  kept_known sure n b f k = ⊎_elim
-      (λ (is, before). listed_before s.graph place' outlived' s.collector.kept n kind is s.collector.vague sure (ap is_some f)
+  kept_known sure n b f k =
+      let other = only_certain s kind h.sound at sure in
+      ⊎_elim
+      (λ (not_full, before). listed_before s.graph place' outlived' s.collector.kept n kind other not_full s.collector.vague sure (ap is_some f)
       (λ sure. h.represents.generations.kept.only sure n b (was n b f) before))
       (λ p. listed_child s.graph place' outlived' s.collector.kept n kind other (unprotected_children-from s.graph place' outlived' n p))
       (kept_cases n b f k)
@@ -336,8 +396,14 @@ module _ (v : View) (s : State) (h : Holds v s) (clean : HasNoGone v.heap) (unmo
     certain = λ n b f m. kept_stays b ∙ kept_certain n b f m;
     only = λ sure n b f k. kept_known sure n b f (sym (kept_stays b) ∙ k);
     unprotected = λ n b f k. kept_unprotected n b f (sym (kept_stays b) ∙ k);
-    outlived = λ n b f k. let more = outlived_more n b f in omega (arith, more);
+    outlived = λ rests n b f k. let more = outlived_more n b f in omega (arith, more);
   }
 
   pub generations_after : HasGenerations s.graph place' (took s kind taken).collector mixed' w
-  generations_after = record { ages = ages; kept = kept; remembered = remembered; old_children = old_children }
+  generations_after = record {
+    ages = ages;
+    kept = kept;
+    remembered = remembered;
+    old_children = λ rests. old_children;
+    aged_children = λ marking. absurd (sweeps_mark_none (pool_pages s.heap.pages) marking);
+  }

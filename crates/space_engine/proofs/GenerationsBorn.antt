@@ -129,6 +129,19 @@ module _ (graph : List Item) (place place' : FinMap nat_cmp ℕ) (collector : Co
       (was, sym (others_at child elder) ∙ there, held))
       (cases_eq parent next)
 
+  -- a parent and its child were there: they pass a test where they did
+  children_born : (test : ObjectView → Bool) (parent child a c : ℕ) → get place' parent ≡ Some a → get place' child ≡ Some c →
+      IsChild graph' parent child → test (object_of heap' a) ≡ true → (object_of heap' a).remembered ≡ false →
+      (get place parent ≡ Some a → get place child ≡ Some c → IsChild graph parent child → object_of heap' a ≡ object_of heap a →
+      test (object_of heap a) ≡ true → (object_of heap a).remembered ≡ false → (test (object_of heap c) ≡ true) ⊎ ((object_of heap c).kept ≡ true)) →
+      (test (object_of heap' c) ≡ true) ⊎ ((object_of heap' c).kept ≡ true)
+  children_born test parent child a c at there is passes out before =
+      let was = old_child parent child a c at there is in
+      let p : object_of heap' a ≡ object_of heap a = others_are parent a was.0 in
+      let q : object_of heap' c ≡ object_of heap c = others_are child c was.1 in
+      subst (λ (o : ObjectView). (test o ≡ true) ⊎ (o.kept ≡ true)) (sym q)
+      (before was.0 was.1 was.2 p (sym (ap test p) ∙ passes) (sym (ap (λ (o : ObjectView). o.remembered) p) ∙ out))
+
   pub generations_born : HasGenerations graph' place' c' mixed' heap'
   generations_born = record {
     ages = by_name (λ n o. o.age ≡ age_of graph' outlived' n) (no_age (is_protected graph' next) (outlived_by outlived' next) outlived_none)
@@ -138,18 +151,17 @@ module _ (graph : List Item) (place place' : FinMap nat_cmp ℕ) (collector : Co
       only = λ vague. by_name (λ n o. o.kept ≡ true → is_member nat_eq collector.kept n ≡ true) (λ k. absurd (false≢true k)) (g.kept.only vague);
       unprotected = by_name (λ n o. o.kept ≡ true → is_protected graph' n ≡ false) (λ k. absurd (false≢true k))
           (λ n a at k. protects n a at ∙ g.kept.unprotected n a at k);
-      outlived = by_name (λ n o. o.kept ≡ true → 1 ≤ outlived_by outlived' n) (λ k. absurd (false≢true k))
-          (λ n a at k. subst (λ (m : ℕ). 1 ≤ m) (sym (outlived_same n a at)) (g.kept.outlived n a at k));
+      outlived = λ rests. by_name (λ n o. o.kept ≡ true → 1 ≤ outlived_by outlived' n) (λ k. absurd (false≢true k))
+          (λ n a at k. subst (λ (m : ℕ). 1 ≤ m) (sym (outlived_same n a at)) (g.kept.outlived rests n a at k));
     };
     remembered = record {
       aged = by_name (λ n o. o.remembered ≡ true → is_aged o ≡ true) (λ r. absurd (false≢true r)) g.remembered.aged;
       mixed_since = by_name (λ n o. o.remembered ≡ true → is_member nat_eq mixed' n ≡ true) (λ r. absurd (false≢true r))
           (λ n a at r. more n (g.remembered.mixed_since n a at r));
     };
-    old_children = λ parent child a c at there is old out.
-        let was = old_child parent child a c at there is in
-        let p : object_of heap' a ≡ object_of heap a = others_are parent a was.0 in
-        let q : object_of heap' c ≡ object_of heap c = others_are child c was.1 in
-        subst (λ (o : ObjectView). (is_old o ≡ true) ⊎ (o.kept ≡ true)) (sym q)
-        (g.old_children parent child a c was.0 was.1 was.2 (sym (ap is_old p) ∙ old) (sym (ap (λ (o : ObjectView). o.remembered) p) ∙ out));
+    old_children = λ rests parent child a c at there is old out.
+        children_born is_old parent child a c at there is old out (λ pat cat was same. g.old_children rests parent child a c pat cat was);
+    aged_children = λ marking parent child a c at there is scanned aged out.
+        children_born is_aged parent child a c at there is aged out
+        (λ pat cat was same. g.aged_children marking parent child a c pat cat was (sym (ap (λ (o : ObjectView). o.colour) same) ∙ scanned));
   }

@@ -1,12 +1,11 @@
 -- The part Generations after a field was written: with the write barrier where it protects the object, and without it where it doesn't.
-use Rattle.std.proofs.Common.{◌≡◌, ℕ, ◌<◌, ◌≤◌, Bool, true, false, min, nat_le, if◌then◌else◌, true≢false, List, length, nat_eq, refl, sym, ap, ◌∙◌, subst, arith, Option, Some, ⊎_elim, inl, inr}
+use Rattle.std.proofs.Common.{◌≡◌, ℕ, ◌<◌, ◌≤◌, Bool, true, false, min, if◌then◌else◌, true≢false, List, length, nat_eq, refl, sym, ap, ◌∙◌, subst, Option, Some, ⊎_elim, inl, inr}
 use Rattle.std.specs.Prelude.{is_some}
 use Rattle.std.specs.Option.{unwrap_or}
 use Rattle.std.specs.Ordering.{nat_cmp}
 use Rattle.std.specs.Set.{is_member}
 use Rattle.std.specs.FinMap.{FinMap, get}
-use Rattle.std.proofs.lemmas.Bool.{cases_Bool, and_parts, or_cases, eqb-true, false≢true}
-use Rattle.std.proofs.lemmas.Bool.Decides.{nat_tests}
+use Rattle.std.proofs.lemmas.Bool.{cases_Bool, or_cases, eqb-true, false≢true}
 use Rattle.space_model.specs.declared.value.Value.{Value}
 use Rattle.space_model.specs.declared.value.Value.TheVariants.{Nil, Small, Name}
 use Rattle.space_model.specs.Ages.{is_protected_guard, is_protected, outlived_by, is_old_in}
@@ -20,6 +19,7 @@ use Rattle.space_model.proofs.MapLaws.{some_get}
 use Rattle.space_model.proofs.ValuesKept.{IsPresentValue, name_present}
 use Rattle.space_heap.specs.Slots.{ObjectView}
 use Rattle.space_heap.specs.HeapView.{HeapView}
+use Rattle.space_heap.specs.Marking.{colour_of}
 use Rattle.space_heap.specs.Objects.{is_occupied, is_object, object_of, written}
 use Rattle.space_heap.specs.Generations.{is_old, is_aged, is_protected_at}
 use Rattle.space_heap.proofs.ObjectLaws.{stays, occupied_from_object}
@@ -31,12 +31,12 @@ use Rattle.space_engine.specs.Stands.{Holds}
 use Rattle.space_engine.specs.Views.{View}
 use Rattle.space_engine.proofs.BarredStores.{IsBarred, stored_is, stored_remembers, stored_surely}
 use Rattle.space_engine.proofs.FieldWords.{nothing_at_zero, nothing_at_odd, field_count}
-use Rattle.space_engine.proofs.GenerationsByName.{KeepsMarks, same_marks, noted_more, noted_now, old_by_name, generations_kept}
+use Rattle.space_engine.proofs.GenerationsByName.{KeepsMarks, same_marks, noted_more, noted_now, old_by_name, aged_protected, generations_kept}
 use Rattle.space_engine.proofs.Outcomes.{some_same}
 use Rattle.space_engine.proofs.WrittenChildren.{written_guards, written_protects, written_children, written_child, mixed_member}
 
 -- the word of a value that is a child is the child's place
-child_word : (place : FinMap nat_cmp ℕ) (value : Value) (child c : ℕ) → is_member nat_eq (names_of value) child ≡ true → get place child ≡ Some c →
+pub child_word : (place : FinMap nat_cmp ℕ) (value : Value) (child c : ℕ) → is_member nat_eq (names_of value) child ≡ true → get place child ≡ Some c →
     value_word place value ≡ c
 child_word place Nil child c m at = absurd (false≢true m)
 child_word place (Small number) child c m at = absurd (false≢true m)
@@ -44,10 +44,6 @@ child_word place (Name name) child c m at = ⊎_elim
     (λ same. ap (λ n. value_word place (Name n)) (sym (eqb-true child name same)) ∙ ap (λ (o : Option ℕ). unwrap_or o 0) at)
     (λ none. absurd (false≢true none))
     (or_cases (nat_eq child name) false m)
-
--- an old object has age 2 or more, and is protected
-pub old_aged : (o : ObjectView) → is_old o ≡ true → is_aged o ≡ true
-old_aged o e = let most : nat_le 3 o.age ≡ true = (and_parts (is_protected_guard o.guard) (nat_le 3 o.age) e).1 in grind (arith, nat_tests, most)
 
 module _ (v : View) (s : State) (h : Holds v s) where
   -- a present value whose word names an object is a name that stands there
@@ -113,6 +109,15 @@ module _ (v : View) (s : State) (h : Holds v s) (name address index : ℕ) (valu
   protected_written : (b : ℕ) → is_protected_at w b ≡ is_protected_at v.heap b
   protected_written b = stays (λ (o : ObjectView). is_protected_guard o.guard) v.heap address _ b refl
 
+  colour_written : (b : ℕ) → colour_of w b ≡ colour_of v.heap b
+  colour_written b = stays (λ (o : ObjectView). o.colour) v.heap address _ b refl
+
+  -- the object at the place of a name is protected where it has age 2 or more
+  protected_here : (n a : ℕ) → get s.heap.place n ≡ Some a → is_aged (object_of v.heap a) ≡ true → is_protected_at v.heap a ≡ true
+  protected_here n a e aged =
+      ap is_protected_guard (h.represents.heap.objects.is n a e).guard
+      ∙ aged_protected s.graph s.collector.outlived n (object_of v.heap a) (h.represents.generations.ages n a e) aged
+
   parent_here : (parent a : ℕ) → parent ≡ name → get s.heap.place parent ≡ Some a → a ≡ address
   parent_here parent a same e = some_same a address (sym e ∙ ap (get s.heap.place) same ∙ at)
 
@@ -123,14 +128,15 @@ module _ (v : View) (s : State) (h : Holds v s) (name address index : ℕ) (valu
       generations_kept s.graph graph' s.heap.place s.collector s.history.mixed mixed' v.heap w h.represents.generations protects
       (noted_more (mixed_names (field_written s name index value)) s.history.mixed)
       (λ n a e. same_marks mixed' n (object_of v.heap a) (object_of w a) (guard_written a) (age_written a) (kept_written a) (remembered_written a))
-      (λ parent child a c pat cat is old out. ⊎_elim
+      (λ parent child a c pat cat is aged out. ⊎_elim
       (λ was. inl was)
       (λ (same, m).
       let here : a ≡ address = parent_here parent a same pat in
-      let protected : is_protected_at v.heap a ≡ true = (and_parts _ _ old).0 in
+      let protected : is_protected_at v.heap a ≡ true = protected_here parent a pat aged in
       absurd (true≢false (sym protected ∙ ap (is_protected_at v.heap) here ∙ free)))
       (written_children s.graph name index value some_name most_name parent child (h.sound.layout.placed.allocated parent a pat).0 is))
-      s.collector.phase s.collector.cursor (without_pair s.collector.stale name index)
+      s.collector.phase s.collector.cursor (without_pair s.collector.stale name index) (λ rest. rest) (λ marking. marking)
+      (λ marking n a e scanned. sym (colour_written a) ∙ scanned)
 
   -- with the barrier
 
@@ -172,18 +178,18 @@ module _ (v : View) (s : State) (h : Holds v s) (name address index : ℕ) (valu
           (stored_remembers v.heap address index word there a);
     }
 
-    -- the child that an old object got is old where the object isn't remembered
+    -- the child that an object of age 2 or more got is old where the object isn't remembered
     child_stored : (parent child a c : ℕ) → get s.heap.place parent ≡ Some a → get s.heap.place child ≡ Some c → parent ≡ name →
-        is_member nat_eq (names_of value) child ≡ true → is_old (object_of v.heap a) ≡ true → (object_of z a).remembered ≡ false →
+        is_member nat_eq (names_of value) child ≡ true → is_aged (object_of v.heap a) ≡ true → (object_of z a).remembered ≡ false →
         is_old (object_of v.heap c) ≡ true
-    child_stored parent child a c pat cat same m old out =
+    child_stored parent child a c pat cat same m aged_parent out =
         let here : a ≡ address = parent_here parent a same pat in
         let is : word ≡ c = child_word s.heap.place value child c m cat in
         let named : is_object w word ≡ true =
         is_object-written v.heap address index word word ∙ ap (is_object v.heap) is ∙ h.represents.heap.objects.stands child c cat in
-        let old_here : is_old (object_of v.heap address) ≡ true = ap (λ b. is_old (object_of v.heap b)) (sym here) ∙ old in
-        let protected : is_protected_at w address ≡ true = protected_written address ∙ (and_parts _ _ old_here).0 in
-        let aged : is_aged (object_of w address) ≡ true = aged_written address ∙ old_aged (object_of v.heap address) old_here in
+        let aged_here : is_aged (object_of v.heap address) ≡ true = ap (λ b. is_aged (object_of v.heap b)) (sym here) ∙ aged_parent in
+        let protected : is_protected_at w address ≡ true = protected_written address ∙ protected_here name address at aged_here in
+        let aged : is_aged (object_of w address) ≡ true = aged_written address ∙ aged_here in
         ⊎_elim
         (λ (old_child : is_old (object_of w word) ≡ true). ap (λ b. is_old (object_of v.heap b)) (sym is) ∙ sym (old_written word) ∙ old_child)
         (λ (young : is_old (object_of w word) ≡ false).
@@ -195,8 +201,9 @@ module _ (v : View) (s : State) (h : Holds v s) (name address index : ℕ) (valu
     generations_stored =
         generations_kept s.graph graph' s.heap.place s.collector s.history.mixed mixed' v.heap z h.represents.generations protects
         (noted_more (mixed_names (field_written s name index value)) s.history.mixed) marks_stored
-        (λ parent child a c pat cat is old out. ⊎_elim
+        (λ parent child a c pat cat is aged out. ⊎_elim
         (λ was. inl was)
-        (λ (same, m). inr (child_stored parent child a c pat cat same m old out))
+        (λ (same, m). inr (child_stored parent child a c pat cat same m aged out))
         (written_children s.graph name index value some_name most_name parent child (h.sound.layout.placed.allocated parent a pat).0 is))
-        s.collector.phase s.collector.cursor (without_pair s.collector.stale name index)
+        s.collector.phase s.collector.cursor (without_pair s.collector.stale name index) (λ rest. rest) (λ marking. marking)
+        (λ marking n a e scanned. sym (colour_written a) ∙ barrier.black a scanned)

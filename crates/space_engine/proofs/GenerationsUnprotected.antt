@@ -4,9 +4,9 @@ use Rattle.std.proofs.Common.{◌≡◌, ◌≢◌, ◌⊎◌, ◌&&◌, ℕ, �
 use Rattle.std.specs.List.{flat_map}
 use Rattle.std.specs.Set.{is_member}
 use Rattle.std.specs.FinMap.{get}
-use Rattle.std.proofs.lemmas.Bool.{cases_Bool, and_parts, and_from, or_cases, or_left, or_right, eq-eqb, eqb-true, false≢true, cond-true, cond-false}
+use Rattle.std.proofs.lemmas.Bool.{cases_Bool, cases_eq, and_parts, and_from, or_cases, or_left, or_right, eq-eqb, eqb-true, false≢true, cond-true, cond-false}
 use Rattle.std.proofs.lemmas.Bool.Decides.{nat_tests}
-use Rattle.space_model.specs.declared.object.Guard.{Guard}
+use Rattle.space_model.specs.declared.phase.Phase.TheVariants.{Marking}
 use Rattle.space_model.specs.Ages.{is_protected_guard, is_protected, outlived_by}
 use Rattle.space_model.specs.Graph.{Item, item_of, with_item, names_of, children, IsChild}
 use Rattle.space_model.specs.Kept.{kept_with_unprotected}
@@ -16,17 +16,17 @@ use Rattle.space_model.specs.State.{State, Collector}
 use Rattle.space_heap.specs.Slots.{ObjectView}
 use Rattle.space_heap.specs.HeapView.{HeapView}
 use Rattle.space_heap.specs.Objects.{object_of}
-use Rattle.space_heap.specs.Generations.{is_old, is_aged, is_protected_at}
+use Rattle.space_heap.specs.Generations.{is_old, is_aged}
 use Rattle.space_heap.proofs.ObjectLaws.{occupied_from_object}
 use Rattle.space_barrier.specs.Barrier.{unprotected}
 use Rattle.space_engine.specs.Generations.{age_of, HasGenerations}
 use Rattle.space_engine.specs.Stands.{Represents, Holds}
 use Rattle.space_engine.specs.Views.{View, with_unprotected}
-use Rattle.space_engine.proofs.GenerationsByName.{noted_more}
-use Rattle.space_engine.proofs.GenerationsStored.{old_aged}
+use Rattle.space_engine.proofs.ColoursUnprotected.{colours_unprotected}
+use Rattle.space_engine.proofs.GenerationsByName.{noted_more, old_aged, aged_protected}
 use Rattle.space_engine.proofs.Outcomes.{some_same}
 use Rattle.space_engine.proofs.ResolvedRoots.{resolved_roots-same}
-use Rattle.space_engine.proofs.UnprotectedObjects.{OneChanged, kept_object, young_object, unprotected_object, unprotected_is, unprotected_guard, item_cases, heap_unprotected}
+use Rattle.space_engine.proofs.UnprotectedObjects.{OneChanged, kept_object, young_object, unprotected_object, unprotected_is, item_cases, heap_unprotected}
 
 -- what is kept after it, and what was kept before
 more_kept : (add : Bool) (name n : ℕ) (kept : List ℕ) → is_member nat_eq kept n ≡ true → is_member nat_eq (if add then name ∷ kept else kept) n ≡ true
@@ -201,57 +201,56 @@ module _ (v : View) (s : State) (h : Holds v s) (name address : ℕ) (at : get s
       (kept_here k))
       (λ n a differ e k. more_kept adds name n s.collector.kept (g.kept.only vague n a e k))
 
-  outlived_after : (n a : ℕ) → get s.heap.place n ≡ Some a → (object_of z a).kept ≡ true → 1 ≤ outlived_by outlived n
-  outlived_after = by_name (λ n o. o.kept ≡ true → 1 ≤ outlived_by outlived n)
+  outlived_after : s.collector.phase ≢ Marking → (n a : ℕ) → get s.heap.place n ≡ Some a → (object_of z a).kept ≡ true → 1 ≤ outlived_by outlived n
+  outlived_after rests = by_name (λ n o. o.kept ≡ true → 1 ≤ outlived_by outlived n)
       (λ k. ⊎_elim
-      (λ was. g.kept.outlived name address at was)
+      (λ was. g.kept.outlived rests name address at was)
       (λ now.
       let most : nat_le 2 (outlived_by outlived name) ≡ true = (and_parts (is_protected s.graph name) (nat_le 2 (outlived_by outlived name)) now).1 in
       grind (arith, nat_tests, most))
       (kept_here k))
-      (λ n a differ e k. g.kept.outlived n a e k)
+      (λ n a differ e k. g.kept.outlived rests n a e k)
 
-  -- the children of a name that was old and is
+  -- the children of each other name are those that it had
   children_other : (parent a child : ℕ) → parent ≢ name → get s.heap.place parent ≡ Some a → IsChild graph' parent child → IsChild s.graph parent child
   unfolding children
   children_other parent a child differ e is =
       sym (ap (λ (item : Item). is_member nat_eq (flat_map names_of item.values) child) (item_other parent a differ e)) ∙ is
 
-  not_old_here : is_old (object_of z address) ≡ false
-  not_old_here = ap (λ (o : ObjectView). is_old o) changed.here
-      ∙ ap (λ (guard : Guard). is_protected_guard guard && nat_le 3 (unprotected_object before).age) (unprotected_guard before)
+  not_aged_here : is_aged (object_of z address) ≡ false
+  not_aged_here = ap (λ (n : ℕ). nat_le 2 n) age_here
 
-  -- one that was old or kept is
-  old_or_kept : (n a : ℕ) → get s.heap.place n ≡ Some a → (is_old (object_of v.heap a) ≡ true) ⊎ ((object_of v.heap a).kept ≡ true) →
-      (is_old (object_of z a) ≡ true) ⊎ ((object_of z a).kept ≡ true)
-  old_or_kept n a e was = by_name (λ n o. (get s.heap.place n ≡ Some a → (is_old (object_of v.heap a) ≡ true) ⊎ ((object_of v.heap a).kept ≡ true)) →
-      get s.heap.place n ≡ Some a → (is_old o ≡ true) ⊎ (o.kept ≡ true))
-      (λ was f.
-      let there : a ≡ address = some_same a address (sym f ∙ at) in
-      ⊎_elim
-      (λ old.
-      let old_here : is_old before ≡ true = ap (λ a. is_old (object_of v.heap a)) (sym there) ∙ old in
-      inr (adds_here (sym adds_is ∙ and_from _ _ (and_parts _ _ old_here).0 (old_aged before old_here))))
-      (λ kept. inr (still_here (ap (λ a. (object_of v.heap a).kept) (sym there) ∙ kept)))
-      (was f))
-      (λ n b differ e was f.
-      let same : b ≡ a = some_same b a (sym e ∙ f) in
-      subst (λ b. (is_old (object_of v.heap b) ≡ true) ⊎ ((object_of v.heap b).kept ≡ true)) (sym same) (was f))
-      n a e (λ _. was) e
+  -- the object is kept where it had age 2 or more
+  aged_kept : is_aged before ≡ true → (object_of z address).kept ≡ true
+  aged_kept aged =
+      let protected : is_protected s.graph name ≡ true = aged_protected s.graph outlived name before (g.ages name address at) aged in
+      adds_here (sym adds_is ∙ and_from _ _ (guard_is ∙ protected) aged)
 
-  old_children_after : (parent child a c : ℕ) → get s.heap.place parent ≡ Some a → get s.heap.place child ≡ Some c → IsChild graph' parent child →
-      is_old (object_of z a) ≡ true → (object_of z a).remembered ≡ false → (is_old (object_of z c) ≡ true) ⊎ ((object_of z c).kept ≡ true)
-  old_children_after parent child a c pat cat is old out = ⊎_elim
-      (λ (same, item).
-      let there : a ≡ address = some_same a address (sym pat ∙ ap (get s.heap.place) same ∙ at) in
-      absurd (true≢false (sym old ∙ ap (λ a. is_old (object_of z a)) there ∙ not_old_here)))
-      (λ (other, item).
-      let away : a ≢ address = λ same. other (h.sound.layout.placed.once parent name address (pat ∙ ap Some same) at) in
-      let o = changed.others a away in
-      old_or_kept child c cat
-      (g.old_children parent child a c pat cat (children_other parent a child other pat is) (sym (ap is_old o) ∙ old)
-      (sym (ap (λ (o : ObjectView). o.remembered) o) ∙ out)))
-      (item_cases s v.heap h.represents.heap h.sound name address at parent a pat)
+  -- what was old or kept is, and what had age 2 or more or was kept has or is: no object of less age passes the test
+  stays_or_kept : (test : ObjectView → Bool) → ((o : ObjectView) → test o ≡ true → is_aged o ≡ true) → (a : ℕ) →
+      (test (object_of v.heap a) ≡ true) ⊎ ((object_of v.heap a).kept ≡ true) → (test (object_of z a) ≡ true) ⊎ ((object_of z a).kept ≡ true)
+  stays_or_kept test to_aged a was = ⊎_elim
+      (λ (here : a ≡ address). inr (ap (λ a. (object_of z a).kept) here ∙ ⊎_elim
+      (λ passed. aged_kept (to_aged before (ap (λ a. test (object_of v.heap a)) (sym here) ∙ passed)))
+      (λ kept. still_here (ap (λ a. (object_of v.heap a).kept) (sym here) ∙ kept))
+      was))
+      (λ (away : a ≢ address). subst (λ (o : ObjectView). (test o ≡ true) ⊎ (o.kept ≡ true)) (sym (changed.others a away)) was)
+      (cases_eq a address)
+
+  -- the parent passes the test, so it isn't the name's object: it is as it was
+  children_after : (test : ObjectView → Bool) → ((o : ObjectView) → test o ≡ true → is_aged o ≡ true) → (parent child a c : ℕ) →
+      get s.heap.place parent ≡ Some a → get s.heap.place child ≡ Some c → IsChild graph' parent child → test (object_of z a) ≡ true →
+      (object_of z a).remembered ≡ false →
+      (IsChild s.graph parent child → object_of z a ≡ object_of v.heap a → test (object_of v.heap a) ≡ true →
+      (object_of v.heap a).remembered ≡ false → (test (object_of v.heap c) ≡ true) ⊎ ((object_of v.heap c).kept ≡ true)) →
+      (test (object_of z c) ≡ true) ⊎ ((object_of z c).kept ≡ true)
+  children_after test to_aged parent child a c pat cat is passes out old =
+      let away : a ≢ address =
+      λ here. true≢false (sym (to_aged (object_of z a) passes) ∙ ap (λ a. is_aged (object_of z a)) here ∙ not_aged_here) in
+      let other : parent ≢ name = λ same. away (some_same a address (sym pat ∙ ap (get s.heap.place) same ∙ at)) in
+      let same = changed.others a away in
+      stays_or_kept test to_aged c
+      (old (children_other parent a child other pat is) same (sym (ap test same) ∙ passes) (sym (ap (λ (o : ObjectView). o.remembered) same) ∙ out))
 
   pub generations_unprotected : HasGenerations graph' s.heap.place (let c : Collector = s.collector in record c { kept = kept' }) mixed' z
   generations_unprotected = record {
@@ -269,7 +268,11 @@ module _ (v : View) (s : State) (h : Holds v s) (name address : ℕ) (at : get s
       mixed_since = by_name (λ n o. o.remembered ≡ true → is_member nat_eq mixed' n ≡ true) (λ r. absurd (true≢false (sym r ∙ forgets_here)))
           (λ n a differ e r. noted_more (mixed_names (unprotected_state s name)) s.history.mixed n (g.remembered.mixed_since n a e r));
     };
-    old_children = old_children_after;
+    old_children = λ rests parent child a c pat cat is old out.
+        children_after is_old old_aged parent child a c pat cat is old out (λ was same. g.old_children rests parent child a c pat cat was);
+    aged_children = λ marking parent child a c pat cat is scanned aged out.
+        children_after is_aged (λ o e. e) parent child a c pat cat is aged out
+        (λ was same. g.aged_children marking parent child a c pat cat was (sym (ap (λ (o : ObjectView). o.colour) same) ∙ scanned));
   }
 
   -- the name isn't protected any more
@@ -277,6 +280,7 @@ module _ (v : View) (s : State) (h : Holds v s) (name address : ℕ) (at : get s
   after_unprotected = record {
     heap = heap_unprotected s v.heap h.represents.heap h.sound name address at kept';
     generations = generations_unprotected;
+    colours = colours_unprotected v s h name address at;
     roots = resolved_roots-same v.heap z changed.leads v.roots ∙ h.represents.roots;
     stack = h.represents.stack;
   }

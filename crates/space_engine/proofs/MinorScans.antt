@@ -2,9 +2,10 @@
 use Rattle.std.proofs.Common.{◌≡◌, ℕ, ◌+◌, ◌≤◌, ◌&&◌, not, Bool, true, false, true≢false, nat_le, List, [], ◌++◌, length, length-append, map, sym, ap, ◌∙◌, subst, arith, nat_eq, Some, ⊎_elim, inl}
 use Rattle.std.specs.Prelude.{is_some, unwrap_or, Option}
 use Rattle.std.specs.Cmp.{nat_eq_equiv}
+use Rattle.std.specs.Ordering.{nat_cmp}
 use Rattle.std.specs.List.{IsDistinct}
 use Rattle.std.specs.Set.{is_member}
-use Rattle.std.specs.FinMap.{get, empty}
+use Rattle.std.specs.FinMap.{FinMap, get, empty}
 use Rattle.std.proofs.Math.ListN.{length-map}
 use Rattle.std.proofs.lemmas.Bool.{cases_Bool, and_parts, and_from, or_cases, or_right, not-true}
 use Rattle.std.proofs.lemmas.Map.Made.{length-le_from_is_member}
@@ -31,6 +32,13 @@ use Rattle.space_engine.proofs.GenerationLists.{is_old_in-present, is_old_in-at}
 use Rattle.space_engine.proofs.GenerationNames.{old_at, held_named}
 use Rattle.space_engine.proofs.KindNotes.{minor_scan_held, marked_object}
 use Rattle.space_engine.proofs.Reaching.{member_map}
+
+-- the address of a name is among those of names that have it
+pub address_listed : (place : FinMap nat_cmp ℕ) (names : List ℕ) (name address : ℕ) → get place name ≡ Some address →
+    is_member nat_eq names name ≡ true → is_member nat_eq (map (address_in place) names) address ≡ true
+address_listed place names name address at m = subst (λ a. is_member nat_eq (map (address_in place) names) a ≡ true)
+    (ap (λ (o : Option ℕ). unwrap_or o 0) at)
+    (member_map (address_in place) names name m)
 
 module _ (v : View) (s : State) (h : Holds v s) (clean : HasNoGone v.heap) (unmoved : s.heap.left ≡ empty) (fresh : s.collector.stale ≡ []) (marked : HeapView)
     (same : SameGraph v.heap marked) (taken : List ℕ) (held_marked : (a : ℕ) → IsOldOrKept v.heap a → IsMarked marked a)
@@ -109,9 +117,7 @@ module _ (v : View) (s : State) (h : Holds v s) (clean : HasNoGone v.heap) (unmo
 
   listed : (name address : ℕ) → get s.heap.place name ≡ Some address → is_member nat_eq counted name ≡ true →
       is_member nat_eq (map (address_in s.heap.place) counted) address ≡ true
-  listed name address at m = subst (λ a. is_member nat_eq (map (address_in s.heap.place) counted) a ≡ true)
-      (ap (λ (o : Option ℕ). unwrap_or o 0) at)
-      (member_map (address_in s.heap.place) counted name m)
+  listed = address_listed s.heap.place counted
 
   kept_young : (name address : ℕ) → get s.heap.place name ≡ Some address → (object_of v.heap address).kept ≡ true → is_old_name s name ≡ false
   kept_young name address at kept =

@@ -1,10 +1,11 @@
 -- A minor marking and its verdict on the heap are a minor verdict of the state.
-use Rattle.std.proofs.Common.{◌≡◌, ◌⊎◌, ℕ, ◌&&◌, Bool, false, true≢false, List, [], sym, ap, ◌∙◌, subst, nat_eq, Some, ⊎_elim, inl, inr}
+use Rattle.std.proofs.Common.{◌≡◌, ◌≢◌, ◌⊎◌, ℕ, ◌&&◌, false, true≢false, List, [], sym, ap, ◌∙◌, subst, nat_eq, Some, ⊎_elim, inl, inr}
 use Rattle.std.specs.Prelude.{◌↔◌, is_some}
 use Rattle.std.specs.Set.{is_member}
 use Rattle.std.specs.FinMap.{get, empty}
 use Rattle.std.proofs.lemmas.Bool.{cases_Bool, and_from, or_left, or_right}
 use Rattle.space_model.specs.declared.event.Kind.TheVariants.{Minor}
+use Rattle.space_model.specs.declared.phase.Phase.TheVariants.{Marking}
 use Rattle.space_model.specs.Graph.{IsChild}
 use Rattle.space_model.specs.Reach.{IsReached}
 use Rattle.space_model.specs.State.{State}
@@ -12,11 +13,9 @@ use Rattle.space_model.specs.Verdicts.{IsMinorStart, IsVerdict, TakesYoung}
 use Rattle.space_model.proofs.MapLaws.{some_get}
 use Rattle.space_model.proofs.Reaching.{IsReached-start, IsReached-closed, IsReached-mono, IsReached-least}
 use Rattle.space_heap.specs.HeapView.{HeapView}
-use Rattle.space_heap.specs.Marking.{colour_of}
 use Rattle.space_heap.specs.Objects.{object_of}
 use Rattle.space_heap.specs.Generations.{is_old}
 use Rattle.space_heap.specs.Sweeping.{HasNoGone}
-use Rattle.space_heap.proofs.MarkingLaws.{White-from_is_white}
 use Rattle.space_roots.specs.WordRoots.{root_words}
 use Rattle.space_tracing.specs.Graph.{IsLive, SameGraph}
 use Rattle.space_tracing.specs.Graph as heap
@@ -25,20 +24,17 @@ use Rattle.space_minor.specs.Minors.{IsOldOrKept, IsMinorScan, IsSpared}
 use Rattle.space_collector.specs.GoneNames.{gone_names}
 use Rattle.space_engine.specs.Stands.{Holds}
 use Rattle.space_engine.specs.Views.{View}
-use Rattle.space_engine.proofs.AfterVerdicts.{w, unmarked_at, taken_there, taken_at, taken_rising}
+use Rattle.space_engine.proofs.AfterVerdicts.{w, taken_there, taken_rising, marked_stays, stays_marked}
 use Rattle.space_engine.proofs.GenerationLists.{is_old_in-present}
 use Rattle.space_engine.proofs.GenerationNames.{old_at, held_named, generational}
 use Rattle.space_engine.proofs.KindNotes.{minor_scan_held}
 use Rattle.space_engine.proofs.Reaching.{child_live, child_reached, start_reached, live_from_reached}
-use Rattle.space_engine.proofs.WholeVerdicts.{not_white}
 
-module _ (v : View) (s : State) (h : Holds v s) (clean : HasNoGone v.heap) (unmoved : s.heap.left ≡ empty) (fresh : s.collector.stale ≡ []) (marked : HeapView)
-    (same : SameGraph v.heap marked) (marks : (a : ℕ) → IsMarked marked a ↔ IsSpared v.heap (root_words v.roots) v.stack a) where
+module _ (v : View) (s : State) (h : Holds v s) (rests : s.collector.phase ≢ Marking) (clean : HasNoGone v.heap) (unmoved : s.heap.left ≡ empty)
+    (fresh : s.collector.stale ≡ []) (marked : HeapView) (same : SameGraph v.heap marked)
+    (marks : (a : ℕ) → IsMarked marked a ↔ IsSpared v.heap (root_words v.roots) v.stack a) where
   abbrev taken : List ℕ
   taken = gone_names (w v s h.represents clean marked same Minor)
-
-  abbrev unmarked : ℕ → Bool
-  unmarked = unmarked_at v s h.represents clean marked same Minor
 
   abbrev IsSparedHere : ℕ → Type 0
   IsSparedHere a = IsSpared v.heap (root_words v.roots) v.stack a
@@ -49,14 +45,10 @@ module _ (v : View) (s : State) (h : Holds v s) (clean : HasNoGone v.heap) (unmo
   -- a name stays where its object is spared
 
   spared_stays : (name address : ℕ) → get s.heap.place name ≡ Some address → IsSparedHere address → is_member nat_eq taken name ≡ false
-  spared_stays name address at spared = taken_at v s h.represents clean marked same Minor name address at ∙ ⊎_elim
-      (λ t. absurd ((marks address).1 spared (White-from_is_white (colour_of marked address) t)))
-      (λ f. f)
-      (cases_Bool (unmarked address))
+  spared_stays name address at spared = marked_stays v s h.represents clean marked same Minor name address at ((marks address).1 spared)
 
   stays_spared : (name address : ℕ) → get s.heap.place name ≡ Some address → is_member nat_eq taken name ≡ false → IsSparedHere address
-  stays_spared name address at out =
-      (marks address).0 (not_white (colour_of marked address) (sym (taken_at v s h.represents clean marked same Minor name address at) ∙ out))
+  stays_spared name address at out = (marks address).0 (stays_marked v s h.represents clean marked same Minor name address at out)
 
   -- what is spared
 
@@ -72,7 +64,7 @@ module _ (v : View) (s : State) (h : Holds v s) (clean : HasNoGone v.heap) (unmo
       ⊎_elim
       (λ old. ⊎_elim
       (λ r. scans (or_left (is_old (object_of v.heap a) && (object_of v.heap a).remembered) _ (and_from _ _ old r)))
-      (λ forgotten. inl (generational v s h unmoved fresh clean a c old forgotten child))
+      (λ forgotten. inl (generational v s h unmoved fresh clean rests a c old forgotten child))
       (cases_Bool (object_of v.heap a).remembered))
       (λ kept. scans (or_right (is_old (object_of v.heap a) && (object_of v.heap a).remembered) _ kept))
       held
@@ -96,7 +88,7 @@ module _ (v : View) (s : State) (h : Holds v s) (clean : HasNoGone v.heap) (unmo
       (λ kept. inr (
         ap is_some at,
         h.represents.generations.kept.unprotected (object_of v.heap a).name a at kept,
-        h.represents.generations.kept.outlived (object_of v.heap a).name a at kept,
+        h.represents.generations.kept.outlived rests (object_of v.heap a).name a at kept,
       ))
       held)
 

@@ -1,5 +1,5 @@
 -- What `new` answers, and the states after it.
-use Rattle.std.proofs.Common.{◌≡◌, ◌≢◌, ℕ, ◌+◌, ◌<◌, ◌≤◌, ◌^◌, Bool, List, [], ◌∷◌, ◌++◌, length, map, refl, sym, ap, ◌∙◌, subst, arith, None, Option, inl, inr}
+use Rattle.std.proofs.Common.{◌≡◌, ◌≢◌, ℕ, zero, suc, ◌+◌, ◌<◌, ◌≤◌, ◌^◌, Bool, List, [], ◌∷◌, ◌++◌, length, map, refl, sym, ap, ◌∙◌, subst, arith, None, Option, inl, inr}
 use Rattle.space_model.specs.declared.command.Command.TheVariants.{New}
 use Rattle.space_model.specs.declared.event.Event.TheVariants.{Gone, Verdict}
 use Rattle.space_model.specs.declared.event.Kind.TheVariants.{Major, Full}
@@ -15,32 +15,36 @@ use Rattle.space_model.specs.State.{State}
 use Rattle.space_model.specs.Texts.{reply_pieces}
 use Rattle.space_model.specs.Verdicts.{verdict_events}
 use Rattle.space_model.specs.declared.event.Event.{Event}
-use Rattle.space_model.specs.declared.phase.Phase.TheVariants.{Idle}
+use Rattle.space_model.specs.declared.phase.Phase.TheVariants.{Idle, Marking}
+use Rattle.space_model.specs.Collections.{IsCollection}
 use Rattle.space_model.specs.Completions.{CompletesIn, Completes}
 use Rattle.space_model.specs.Counts.{CountIs}
+use Rattle.space_model.specs.NewCommand.{SweepsInNeed}
 use Rattle.space_model.specs.Reach.{Reach}
+use Rattle.space_model.specs.Sound.{Sound}
 use Rattle.space_model.proofs.Stages.{IsAtLimit, finds_at_once, finds_late, makes_none, place_leaves, lacks_page as lacks_page_after}
-use Rattle.space_model.proofs.WholeLaws.{collection_scans}
+use Rattle.space_model.proofs.WholeLaws.{collection_scans, completed_idle}
 use Rattle.space_heap.specs.Allocations.{LacksRoom, NeedsNewPage}
 use Rattle.space_heap.specs.HeapView.{HeapView}
 use Rattle.space_heap.specs.SoundHeap.{IsSoundHeap}
 use Rattle.space_roots.specs.WordRoots.{root_word, root_words}
 use Rattle.space_engine.specs.Allocations.{IsReserved, IsReservedAndSwept, IsRootedAllocation, IsGivenUp, IsLastReply}
 use Rattle.space_engine.specs.Answered.{IsLawfulAnswer, IsAnswered, IsCutOff}
-use Rattle.space_engine.specs.Counting.{no_counts}
 use Rattle.space_engine.specs.Stands.{Represents, Holds}
 use Rattle.space_engine.specs.Steps.{AnswersWith}
-use Rattle.space_engine.specs.Ticks.{IsMarkingTicked, IsTicked}
+use Rattle.space_engine.specs.Ticks.{AreCompletionScans, IsMarkingTicked, IsTicked}
 use Rattle.space_engine.specs.Turns.{IsAtRest}
 use Rattle.space_engine.specs.Views.{View, with_heap}
-use Rattle.space_engine.specs.HeapCollections.{IsHeapCollection, IsToldCollection, IsCutCollection, IsOneVerdict}
-use Rattle.space_engine.proofs.Collecting.{CollectsTo, collects_to, collection_spelled, counted_names}
+use Rattle.space_engine.specs.HeapCollections.{IsHeapCollection, IsTickedCollection, AreTold, AreCut, HasJudged}
+use Rattle.space_engine.proofs.Collecting.{CollectsTo, collects_to, collection_spelled}
+use Rattle.space_collector.specs.GoneNames.{gone_names}
 use Rattle.space_collector.specs.PagesSwept.{SweepsUntilFree}
+use Rattle.space_collector.specs.Quiescent.{most_slots}
 use Rattle.space_engine.proofs.NewPlaces.{made_from, full_state, needs_page}
 use Rattle.space_engine.proofs.NewTurns.{born_swept}
 use Rattle.space_engine.proofs.Reading.{root_absent}
 use Rattle.space_engine.proofs.ReservedRoots.{heap_reserved, reserved_after, allocated_reserved, dropped_reserved, collection_reserved}
-use Rattle.space_engine.proofs.SweptInNeed.{SweepsUntilFreeTo, until_free_holds, idle_in_vain, completes_in_vain}
+use Rattle.space_engine.proofs.SweptInNeed.{SweepsUntilFreeTo, until_free_holds, completes_in_vain}
 
 not_major : Full ≢ Major
 not_major e = cc
@@ -48,6 +52,36 @@ not_major e = cc
 -- a collection that completes what nothing is under way begins where it stands
 idle_first : (s t : State) (events : List Event) → s.collector.phase ≡ Idle → Completes s events t → t ≡ s
 idle_first s t events idle c = (subst (λ phase. CompletesIn phase s events t) idle c).1
+
+-- outside a marking a completion scans nothing
+none_ended : (s : State) → s.collector.phase ≢ Marking → AreCompletionScans s 0
+none_ended s other = record { marking = λ marking. absurd (other marking); others = λ rests. refl }
+
+-- a whole collection after sweeps in vain is one of the state before them: where pages waited the sweeps were its completion, and where none did
+-- nothing was done before it
+after_sweeps : (pages : ℕ) (s : State) (pool : ℕ) (t : State) → Sound s → SweepsInNeed pages s pool t → t.heap.unswept ≡ [] →
+    (u : State) (events : List Event) (ended scans : ℕ) → IsCollection t Full events scans u → AreCompletionScans t ended → (ticks ticked : ℕ) →
+    ticked ≡ ticks + ended + scans → IsMarkingTicked s ticks ticked
+after_sweeps zero s pool t h same none u events ended scans c are ticks ticked rose = subst (λ s. IsMarkingTicked s ticks ticked) same (record {
+  idle = c.idle;
+  completion = c.completion;
+  completes = c.completes;
+  scans = scans;
+  scanned = collection_scans t u events scans c;
+  ticked = record { ended = ended; ended_are = are; ticked = rose };
+})
+after_sweeps (suc pages) s pool t h sweeps none u events ended scans c are ticks ticked rose =
+    let (at, completes) = completes_in_vain pages s pool t h none sweeps in
+    let idle = completed_idle s t [] completes h in
+    let nothing : ended ≡ 0 = are.others (λ e. cc) in
+    record {
+      idle = t;
+      completion = [];
+      completes = completes;
+      scans = scans;
+      scanned = subst (λ idle. CountIs (Reach idle) scans) (idle_first t c.idle c.completion idle c.completes) (collection_scans t u events scans c);
+      ticked = record { ended = 0; ended_are = none_ended s (λ e. cc); ticked = omega (arith, nothing, rose) };
+    }
 
 module _ (root : List ℕ) (fields : ℕ) (guard : Guard) (style : Style) where
   -- an object can't have so many fields
@@ -118,8 +152,8 @@ module _ (root : List ℕ) (fields : ℕ) (guard : Guard) (style : Style) where
     same_heap : reserved.reserved.heap ≡ v.heap
     same_heap = heap_reserved v reserved.reserved root is_new reserved.reserves
 
-    module _ (w : View) (z : HeapView) (scans : ℕ) (names : List ℕ)
-        (c : IsHeapCollection r.heap z Full (root_words r.roots) r.stack scans names) where
+    module _ (w : View) (z : HeapView) (ended scans : ℕ) (events : List Event)
+        (c : IsHeapCollection r.heap z Full (root_words r.roots) r.stack ended scans events) where
       module _ (s : State) (h : Holds v s) where
         swept : SweepsUntilFreeTo v s r.heap pool
         swept = until_free_holds v s r.heap pool h (subst IsSoundHeap same_heap reserved.swept.was_sound) reserved.swept.sound
@@ -132,19 +166,19 @@ module _ (root : List ℕ) (fields : ℕ) (guard : Guard) (style : Style) where
         limit : IsAtLimit s pool limited
         limit = full_state v s r.heap pool swept lacks
 
-        its : IsHeapCollection x.heap z Full (root_words x.roots) x.stack scans names
-        its = collection_reserved x limited swept.holds r root is_new late_reserved z scans names c
+        its : IsHeapCollection x.heap z Full (root_words x.roots) x.stack ended scans events
+        its = collection_reserved x limited swept.holds rests z ended scans events r root is_new late_reserved c
 
-        to : CollectsTo x limited z Full scans names
-        to = collects_to x limited swept.holds rests z Full not_major scans names its
+        to : CollectsTo x limited z Full ended scans events
+        to = collects_to x limited swept.holds rests z Full not_major ended scans events its
 
         -- an object was allocated after it
         late_made : (name a : ℕ) → IsRootedAllocation (with_heap r z) w root fields guard style name a →
-            AnswersWith s w (New root fields guard style) (verdict_events Full names) (Made name a)
+            AnswersWith s w (New root fields guard style) events (Made name a)
         late_made name a allocated =
             let m = made_from (with_heap v z) w to.state to.holds root fields guard style name a
             (allocated_reserved x r root is_new late_reserved z w fields guard style name a allocated) in
-            let place = finds_late s limited to.state pool (verdict_events Full names) scans limit to.collects m.ready a m.place in
+            let place = finds_late s limited to.state pool events scans limit to.collects m.ready a m.place in
             record {
               state = m.state;
               represents = m.represents;
@@ -153,8 +187,7 @@ module _ (root : List ℕ) (fields : ℕ) (guard : Guard) (style : Style) where
                 answer_is = refl;
                 is = record {
                   few = few;
-                  next =
-                      m.next ∙ ap (λ (graph : List Item). length graph + 1) (place_leaves s pool (verdict_events Full names) m.ready a place).graph;
+                  next = m.next ∙ ap (λ (graph : List Item). length graph + 1) (place_leaves s pool events m.ready a place).graph;
                   ready = m.ready;
                   place = place;
                   made = m.made;
@@ -163,8 +196,7 @@ module _ (root : List ℕ) (fields : ℕ) (guard : Guard) (style : Style) where
             }
 
         -- there was no room after it either
-        late_none : LacksRoom w.heap pool → IsGivenUp (with_heap r z) w root is_new pool →
-            AnswersWith s w (New root fields guard style) (verdict_events Full names) FullReply
+        late_none : LacksRoom w.heap pool → IsGivenUp (with_heap r z) w root is_new pool → AnswersWith s w (New root fields guard style) events FullReply
         late_none still given =
             let end = until_free_holds (with_heap v z) to.state w.heap pool to.holds given.was_sound given.sound given.sweeps in
             let full = full_state (with_heap v z) to.state w.heap pool end still in
@@ -175,55 +207,52 @@ module _ (root : List ℕ) (fields : ℕ) (guard : Guard) (style : Style) where
               effects = record {
                 reply = FullReply;
                 answer_is = refl;
-                is = makes_none s limited to.state pool (verdict_events Full names) scans limit to.collects end.state fields few refl full;
+                is = makes_none s limited to.state pool events scans limit to.collects end.state fields few refl full;
               };
             }
 
         late : (reply : Reply) → IsLastReply (with_heap r z) w root is_new fields guard style reply →
-            AnswersWith s w (New root fields guard style) (verdict_events Full names) reply
+            AnswersWith s w (New root fields guard style) events reply
         late (Made name a) last = late_made name a last
         late FullReply last = late_none last.0 last.1
         late _ last = absurd last
 
         -- the ledger's count rose by the scans of the collection
-        late_ticked : (ticks ticked : ℕ) → ticked ≡ ticks + scans → IsMarkingTicked s ticks ticked
-        late_ticked ticks ticked rose =
-            let first = to.collects in
-            let idle = idle_in_vain x limited swept.holds rests limit.vain.none_waits in
-            record {
-              idle = limited;
-              completion = [];
-              completes = completes_in_vain s pool limited h.sound idle limit.vain;
-              scans = scans;
-              scanned = subst (λ idle. CountIs (Reach idle) scans) (idle_first limited first.idle first.completion idle first.completes)
-                  (collection_scans limited to.state (verdict_events Full names) scans first);
-              ticked = rose;
-            }
+        late_ticked : (ticks ticked : ℕ) → ticked ≡ ticks + ended + scans → IsMarkingTicked s ticks ticked
+        late_ticked = after_sweeps limit.vain.pages s pool limited h.sound limit.vain.sweeps limit.vain.none_waits to.state events ended scans to.collects
+            to.ended_are
 
       lawful : (reply : Reply) → IsLastReply (with_heap r z) w root is_new fields guard style reply →
-          IsLawfulAnswer v w (New root fields guard style) (verdict_events Full names) reply
+          IsLawfulAnswer v w (New root fields guard style) events reply
       lawful reply last = record {
         answers = λ s h. late s h reply last;
-        spelled = λ s h. collection_spelled x (limited s h) (swept s h).holds rests z Full not_major scans names (its s h) born;
+        spelled = λ s h. collection_spelled x (limited s h) (swept s h).holds rests z Full not_major ended scans events (its s h) born;
       }
 
-    -- a verdict tells something
-    ticked_events : (s : State) (names : List ℕ) (k : ℕ) (reply : Reply) (ticks ticked : ℕ) → IsMarkingTicked s ticks ticked →
-        IsTicked s (New root fields guard style) (map Gone names ++ Verdict Full k ∷ []) reply ticks ticked
-    ticked_events s [] k reply ticks ticked t = t
-    ticked_events s (name ∷ names) k reply ticks ticked t = t
+    -- a collection tells something
+    ticked_events : (s : State) (completion : List Event) (names : List ℕ) (k : ℕ) (reply : Reply) (ticks ticked : ℕ) → IsMarkingTicked s ticks ticked →
+        IsTicked s (New root fields guard style) (completion ++ (map Gone names ++ Verdict Full k ∷ [])) reply ticks ticked
+    ticked_events s [] [] k reply ticks ticked t = t
+    ticked_events s [] (name ∷ names) k reply ticks ticked t = t
+    ticked_events s (event ∷ completion) names k reply ticks ticked t = t
 
     pub answered_late : (w : View) (z : HeapView) (scans gone : ℕ) (reply : Reply) (before after : Option (List ℕ)) (ticks ticked : ℕ) →
-        IsToldCollection r.heap z Full (root_words r.roots) r.stack scans gone before after → ticked ≡ ticks + scans →
+        AreTold (IsTickedCollection r.heap z Full (root_words r.roots) r.stack scans ticks ticked) gone before after →
         IsLastReply (with_heap r z) w root is_new fields guard style reply → IsAnswered v w (New root fields guard style) reply gone before after ticks ticked
-    answered_late w z scans gone reply before after ticks ticked told rose last = record {
-      events = verdict_events Full told.names;
-      lawful = lawful w z scans told.names told.collects reply last;
-      counted = counted_names Full told.names (length told.names) ∙ ap (λ n. record no_counts { gone = n }) (sym told.many);
-      written = told.written;
-      ticks_are = λ s h.
-          ticked_events s told.names (length told.names) reply ticks ticked (late_ticked w z scans told.names told.collects s h ticks ticked rose);
-    }
+    answered_late w z scans gone reply before after ticks ticked told last =
+        let ended = told.are.ended in
+        let c = told.are.collects in
+        let events_are : told.events ≡ c.completion ++ verdict_events Full (gone_names z) =
+        c.events_are ∙ ap (λ events. c.completion ++ events) c.tells.events_are in
+        record {
+          events = told.events;
+          lawful = lawful w z ended scans told.events c reply last;
+          counted = told.counted;
+          written = told.written;
+          ticks_are = λ s h. subst (λ events. IsTicked s (New root fields guard style) events reply ticks ticked) (sym events_are)
+              (ticked_events s c.completion (gone_names z) (length (gone_names z)) reply ticks ticked
+              (late_ticked w z ended scans told.events c s h ticks ticked told.are.rose));
+        }
 
     -- the reply can be written
     late_spelled : (w : View) (z : HeapView) (reply : Reply) → z.counters.born < 2 ^ 62 → IsLastReply (with_heap r z) w root is_new fields guard style reply →
@@ -237,13 +266,15 @@ module _ (root : List ℕ) (fields : ℕ) (guard : Guard) (style : Style) where
     late_spelled w z FullReply few last = tt
     late_spelled w z _ few last = absurd last
 
-    pub cut_off_late : (w : View) (z : HeapView) (reply : Reply) (before after : Option (List ℕ)) → IsOneVerdict r.heap z Full →
-        IsCutCollection r.heap z Full (root_words r.roots) r.stack before after →
+    pub cut_off_late : (w : View) (z : HeapView) (reply : Reply) (before after : Option (List ℕ)) → HasJudged 1 2 most_slots r.heap z →
+        AreCut (λ events. (ended scans : ℕ) × IsHeapCollection r.heap z Full (root_words r.roots) r.stack ended scans events) before after →
         IsLastReply (with_heap r z) w root is_new fields guard style reply → IsCutOff v w (New root fields guard style) before after
-    cut_off_late w z reply before after one cut last = record {
-      events = verdict_events Full cut.names;
-      reply = reply;
-      lawful = lawful w z cut.scans cut.names cut.collects reply last;
-      reply_spelled = late_spelled w z reply (let same = one.born in omega (arith, same, born)) last;
-      prefix = cut.prefix;
-    }
+    cut_off_late w z reply before after judged cut last =
+        let (ended, scans, c) = cut.are in
+        record {
+          events = cut.events;
+          reply = reply;
+          lawful = lawful w z ended scans cut.events c reply last;
+          reply_spelled = late_spelled w z reply (let same = judged.born in omega (arith, same, born)) last;
+          prefix = cut.prefix;
+        }

@@ -15,12 +15,13 @@ use Rattle.space_model.specs.Moments.{mixed_names, with_names, noted}
 use Rattle.space_model.specs.Operands.{value_word}
 use Rattle.space_model.specs.Pages.{with_pool}
 use Rattle.space_model.specs.Pieces.{born, new_item}
+use Rattle.space_model.specs.Reached.{reached_names}
 use Rattle.space_model.specs.Roots.{root_names, with_root}
 use Rattle.space_model.specs.State.{State, Heap, Collector}
 use Rattle.space_model.proofs.MapLaws.{get-insert_name, some_get}
 use Rattle.space_model.proofs.SlotLaws.{item_of-push, item_of-new}
 use Rattle.space_model.proofs.StoredWordLaws.{map_from_same}
-use Rattle.space_model.proofs.ValuesKept.{present_kept}
+use Rattle.space_model.proofs.ValuesKept.{placed_present, present_kept}
 use Rattle.space_roots.specs.WordRoots.{with_root_word}
 use Rattle.space_heap.specs.Slots.{ObjectView, new_object}
 use Rattle.space_heap.specs.HeapView.{Counters, HeapView}
@@ -29,11 +30,13 @@ use Rattle.space_heap.specs.FreeSlots.{IsFreeAt}
 use Rattle.space_heap.proofs.FreeLaws.{is_moved-placed}
 use Rattle.space_heap.proofs.ObjectLaws.{occupied_from_object, none_occupied_free, is_occupied-placed_other, unswept-placed, grey-placed, cursor-placed, counters-placed, is_object-placed_same, is_object-placed_other, object_of-placed_same, object_of-placed_other, resolved-placed, pool_at-placed, count-placed, limit-placed, phase-placed}
 use Rattle.space_heap.proofs.TakenLaws.{resolved_object}
+use Rattle.space_engine.specs.Colours.{HasColours}
 use Rattle.space_engine.specs.Generations.{HasGenerations}
 use Rattle.space_engine.specs.Stands.{IsObjectOf, HasObjects, HasCorpses, HasLeft, HasPages, HasProgress, HasCounted, HeapRepresents, Represents, Holds}
 use Rattle.space_model.specs.StoredWords.{is_stale, stored_word, stored_words}
 use Rattle.space_engine.specs.Views.{View, with_heap, with_root_written}
 use Rattle.space_engine.specs.Words.{word_roots, resolved_roots}
+use Rattle.space_engine.proofs.ColoursBorn.{free_white, colours_born}
 use Rattle.space_engine.proofs.GenerationsBorn.{generations_born}
 use Rattle.space_engine.proofs.GenerationsByName.{noted_more}
 use Rattle.space_engine.proofs.Outcomes.{some_same}
@@ -102,7 +105,7 @@ module _ (v : View) (s : State) (h : Holds v s) (root : List ℕ) (fields : ℕ)
       map_from_same (stored_word s.heap.place s.heap.left s.collector.stale n) (stored_word place' s.heap.left s.collector.stale n) 0 (item_of s.graph n).values
       (λ i value holds. ap (cond (is_stale s.collector.stale n (0 + i)) (value_word s.heap.left value))
       (sym (value_word-insert s.heap.place next a value (λ c m.
-      let present = (present_kept s h.sound).field n i value ((present_kept s h.sound).named b n e) holds c m in
+      let present = (present_kept s h.sound).field n i value (placed_present s.heap.place n b e) holds c m in
       let at = some_get (get s.heap.place c) present in
       not_next c at.0 at.1))))
 
@@ -227,6 +230,17 @@ module _ (v : View) (s : State) (h : Holds v s) (root : List ℕ) (fields : ℕ)
       (object_of-placed_same heap (pool_for fields) a object free)
       (λ n b e. object_of-placed_other heap a object b (no_place n b e) ∙ prepared.objects b)
 
+  colours_placed : HasColours graph' place' (noted (born s root fields guard style a)).history s.collector.phase w
+  colours_placed phase =
+      let marking = h.sound.marking phase in
+      let t : State = born s root fields guard style a in
+      colours_born s.graph (new_item guard style fields) s.heap.place place' s.history (with_names (reached_names t) s.history.seen) mixed' v.heap w
+      (h.represents.colours phase) a h.sound.layout.placed.allocated (λ n m. marking.seen_present n (marking.began_seen n m))
+      h.sound.names.children_present (noted_more (reached_names t) s.history.seen) get_new get_old
+      (sym (ap (λ (o : ObjectView). o.colour) (prepared.objects a)) ∙ free_white heap (pool_for fields) a free)
+      (ap (λ (o : ObjectView). o.colour) (object_of-placed_same heap (pool_for fields) a object free))
+      (λ b other. object_of-placed_other heap a object b other ∙ prepared.objects b)
+
   -- an object was allocated, and the root holds it
   pub after_allocation : pages ≡ with_pool s.heap.pages (page_of a) (pool_for fields) →
       Represents (with_root_written (with_heap v w) root a) (noted (born s root fields guard style a))
@@ -236,6 +250,7 @@ module _ (v : View) (s : State) (h : Holds v s) (root : List ℕ) (fields : ℕ)
       pages = pages;
     }) (let c : Collector = s.collector in record c { outlived = c.outlived ++ 0 ∷ [] }) s.counters w) e heap_placed;
     generations = generations_placed;
+    colours = colours_placed;
     roots = roots_placed;
     stack = h.represents.stack;
   }

@@ -1,7 +1,6 @@
 -- How far an allocation, and the sweeps before it, change a heap's counts, and that they leave a quiescent heap at rest so.
 use Rattle.std.proofs.Common.{◌<◌, ◌^◌, ◌≡◌, ◌≢◌, ℕ, ◌+◌, ◌≤◌, Bool, List, length, refl, sym, ap, ◌∙◌, subst, arith, ⊎_elim}
 use Rattle.std.proofs.lemmas.Bool.{cases_eq}
-use Rattle.space_model.specs.declared.event.Kind.TheVariants.{Full as FullKind}
 use Rattle.space_model.specs.declared.object.Guard.{Guard}
 use Rattle.space_model.specs.declared.object.Style.{Style}
 use Rattle.space_model.specs.declared.reply.Reply.{Reply}
@@ -25,7 +24,7 @@ use Rattle.space_collector.specs.Quiescent.{IsQuiescent, most_slots}
 use Rattle.space_collector.proofs.AllSweeps.{leaves_rest_pages}
 use Rattle.space_collector.proofs.NeededSweeps.{in_need_pages}
 use Rattle.space_engine.specs.Allocations.{IsLastReply, IsSwept}
-use Rattle.space_engine.specs.HeapCollections.{IsOneVerdict}
+use Rattle.space_engine.specs.HeapCollections.{HasJudged}
 use Rattle.space_engine.specs.Turns.{CanAnswer, CanCompleteAndCollect, IsAtRest, IsWork, IsOneTurn}
 use Rattle.space_engine.specs.Views.{View}
 use Rattle.space_engine.proofs.TurnLaws.{IsAlike, quiescent_alike, rests_alike, work_swept, work_then, work_born}
@@ -42,7 +41,7 @@ module _ (v w : HeapView) (fields : ℕ) (guard : Guard) (style : Style) (name a
   prepared_alike : IsAlike v u × (u.counters ≡ v.counters)
   prepared_alike = ⊎_elim
       (λ same. subst (λ u. IsAlike v u × (u.counters ≡ v.counters)) (sym same)
-      (record { phase = refl; unswept = refl; grey = refl; gone = λ b. refl; moved = λ b. refl; grey_was = λ b e. e }, refl))
+      (record { phase = refl; unswept = refl; grey = λ rests. refl; gone = λ b. refl; moved = λ b. refl; grey_was = λ rests b e. e }, refl))
       (λ (page, g).
       let within : page ≤ length v.pages = ⊎_elim (λ (x : IsLeastSpare v page). let lt = x.spare.0 in omega arith) (λ (none, is, below). omega arith) g.next in
       let others = rest-with_page v page (pool_for fields) in
@@ -50,10 +49,10 @@ module _ (v w : HeapView) (fields : ℕ) (guard : Guard) (style : Style) (name a
         record {
           phase = others.phase;
           unswept = others.unswept;
-          grey = others.grey;
+          grey = λ rests. others.grey;
           gone = is_gone-with_page v page (pool_for fields) within g.empty;
           moved = is_moved-with_page v page (pool_for fields) within g.empty;
-          grey_was = λ b e. sym (ap (λ (o : ObjectView). o.colour) (object_of-with_page v page (pool_for fields) within g.empty b)) ∙ e;
+          grey_was = λ rests b e. sym (ap (λ (o : ObjectView). o.colour) (object_of-with_page v page (pool_for fields) within g.empty b)) ∙ e;
         },
         others.counters,
       ))
@@ -63,10 +62,10 @@ module _ (v w : HeapView) (fields : ℕ) (guard : Guard) (style : Style) (name a
   placed_alike = subst (IsAlike u) (sym all.becomes) (record {
     phase = phase-placed u a new;
     unswept = unswept-placed u a new;
-    grey = grey-placed u a new;
+    grey = λ rests. grey-placed u a new;
     gone = λ b. is_gone-placed u (pool_for fields) a new b all.least.free refl;
     moved = λ b. is_moved-placed u (pool_for fields) a new b all.least.free;
-    grey_was = λ b e. ⊎_elim
+    grey_was = λ rests b e. ⊎_elim
         (λ same. absurd (white_grey
         (sym (ap (λ (o : ObjectView). o.colour) (object_of-placed_same u (pool_for fields) a new all.least.free))
         ∙ ap (λ b. colour_of (placed u a new) b) (sym same) ∙ e)))
@@ -129,26 +128,26 @@ keeps_last v w root is_new fields guard style (Made name address) last =
 keeps_last v w root is_new fields guard style Full last = keeps_swept v.heap w.heap (pool_for fields) last.1.was_sound last.1.sweeps
 keeps_last v w root is_new fields guard style _ last = absurd last
 
--- a verdict, and then the last allocation or none
+-- a collection, and then the last allocation or none
 pub work_late : (before : HeapView) (v w : View) (root : List ℕ) (is_new : Bool) (fields : ℕ) (guard : Guard) (style : Style) (reply : Reply) →
-    IsOneVerdict before v.heap FullKind → IsLastReply v w root is_new fields guard style reply → IsWork 1 v.heap w.heap → IsWork 2 before w.heap
-work_late before v w root is_new fields guard style reply one last later =
+    HasJudged 1 2 most_slots before v.heap → IsLastReply v w root is_new fields guard style reply → IsWork 1 v.heap w.heap → IsWork 2 before w.heap
+work_late before v w root is_new fields guard style reply judged last later =
     let keeps = keeps_last v w root is_new fields guard style reply last in
     let minors = keeps.minor_verdicts in
     let others = keeps.other_verdicts in
-    let was_born = one.born in
-    let was_minors = one.minor_verdicts in
-    let was_others = one.other_verdicts in
-    let was_freed = one.freed in
+    let was_born = judged.born in
+    let was_minors = judged.minor_verdicts in
+    let was_others = judged.other_verdicts in
+    let was_freed = judged.freed in
     let born = later.born in
     let freed = later.freed in
     record {
       born = omega arith;
-      minor_verdicts = omega arith;
-      other_verdicts = omega arith;
+      minor_verdicts = omega (arith, minors, was_minors);
+      other_verdicts = omega (arith, others, was_others);
       freed = omega (arith, was_freed, freed);
-      quiescent = λ q rests. later.quiescent one.quiescent one.rests;
-      rests = λ rests. later.rests one.rests;
+      quiescent = λ q rests. later.quiescent judged.quiescent judged.rests;
+      rests = λ rests. later.rests judged.rests;
     }
 
 -- an allocation found no room, and pages were swept
@@ -184,7 +183,7 @@ module _ (r u : View) (pool : ℕ) (swept : IsSwept r u pool) (work : IsWork 1 r
           freed = omega (arith, freed, few);
         }
 
-  -- a verdict comes then, and the last allocation or none
+  -- a collection comes then, and the last allocation or none
   pub turn_late : (z : HeapView) → IsWork 2 u.heap z → IsOneTurn r.heap z
   turn_late z later = work_then 1 2 r.heap u.heap z work later
       (ap (λ (c : Counters). c.born) rest.counters)

@@ -22,7 +22,7 @@ use Rattle.space_model.specs.Refusals.{and_then, both}
 use Rattle.space_model.specs.State.{State}
 use Rattle.space_model.proofs.MapLaws.{some_get}
 use Rattle.space_model.proofs.ValuesHold.{named_holds, write_holds}
-use Rattle.space_model.proofs.ValuesKept.{IsPresentValue, name_present, present_kept}
+use Rattle.space_model.proofs.ValuesKept.{IsPresentValue, IsReachedValue, name_present, present_kept, reached_kept}
 use Rattle.space_heap.specs.Objects.{is_object, object_of}
 use Rattle.space_heap.specs.Generations.{is_protected_at}
 use Rattle.space_engine.specs.Stands.{Holds}
@@ -53,6 +53,11 @@ module _ (v : View) (s : State) (h : Holds v s) where
   written_present object index input name value i e =
       (write_holds s (IsPresentValue s.heap.place) (present_kept s h.sound) object index input (name, value) i e).1
 
+  -- and reached
+  written_reached : (object : Operand) (index : ℕ) (input : Input) (name : ℕ) (value : Value) → IsWritableInput input →
+      written_field s.graph (operand_value s object) index (input_value s input) ≡ Ok (name, value) → IsReachedValue s value
+  written_reached object index input name value i e = (write_holds s (IsReachedValue s) (reached_kept s) object index input (name, value) i e).1
+
   store_value : (object : Operand) (index : ℕ) (input : Input) (address word : ℕ) (found : Result (ℕ × Value) Refusal) → IsWritableInput input →
       index < length (object_of v.heap address).fields → written_field s.graph (operand_value s object) index (input_value s input) ≡ found →
       Ok (address, word) ≡ written_words s.heap.place found → Answers s (with_field v address index word) (Store object index input) Done
@@ -63,7 +68,7 @@ module _ (v : View) (s : State) (h : Holds v s) where
       subst (λ (p : ℕ × ℕ). Answers s (with_field v p.0 index p.1) (Store object index input) Done) (sym pair) (record {
         state = noted (field_written s name index value);
         represents = after_store v s h name (value_word s.heap.place (Name name)) index value (written_at object index input name value i e)
-            (written_present object index input name value i e) here;
+            (written_present object index input name value i e) (written_reached object index input name value i e) here;
         replies = rw e (refl, refl);
       })
   store_value object index input address word (Err why) i field e w = absurd (cc)

@@ -1,9 +1,9 @@
 -- A space before the first command.
-use Rattle.std.proofs.Common.{◌≢◌, ℕ, lit≤, true≢false, refl, sym, ◌∙◌, inl}
+use Rattle.std.proofs.Common.{◌≢◌, ℕ, lit≤, true≢false, refl, sym, ◌∙◌}
 use Rattle.std.specs.Ordering.{nat_cmp}
 use Rattle.std.specs.FinMap.{get-empty}
 use Rattle.std.proofs.lemmas.Bool.{and_parts}
-use Rattle.space_model.specs.declared.phase.Phase.TheVariants.{Idle, Sweeping}
+use Rattle.space_model.specs.declared.phase.Phase.TheVariants.{Idle, Marking, Sweeping, Moving, Fixing}
 use Rattle.space_model.specs.State.{opening}
 use Rattle.space_model.proofs.SoundKept.{Sound-opening}
 use Rattle.space_heap.specs.declared.colour.Colour.TheVariants.{White, Grey}
@@ -46,19 +46,24 @@ opening_held limit = record {
         certain = λ name address e m. absurd (none_some address (sym (get-empty nat_cmp name) ∙ e));
         only = λ vague name address e k. absurd (none_some address (sym (get-empty nat_cmp name) ∙ e));
         unprotected = λ name address e k. absurd (none_some address (sym (get-empty nat_cmp name) ∙ e));
-        outlived = λ name address e k. absurd (none_some address (sym (get-empty nat_cmp name) ∙ e));
+        outlived = λ rests name address e k. absurd (none_some address (sym (get-empty nat_cmp name) ∙ e));
       };
       remembered = record {
         aged = λ name address e r. absurd (none_some address (sym (get-empty nat_cmp name) ∙ e));
         mixed_since = λ name address e r. absurd (none_some address (sym (get-empty nat_cmp name) ∙ e));
       };
-      old_children = λ parent child a c at there is old out. absurd (none_some a (sym (get-empty nat_cmp parent) ∙ at));
+      old_children = λ rests parent child a c at there is old out. absurd (none_some a (sym (get-empty nat_cmp parent) ∙ at));
+      aged_children = λ marking parent child a c at there is black aged out. absurd (none_some a (sym (get-empty nat_cmp parent) ∙ at));
     };
+    colours = λ marking. absurd (idle_marking marking);
     roots = refl;
     stack = refl;
   };
   sound = Sound-opening limit;
 }
+  where
+    idle_marking : Idle ≢ Marking
+    idle_marking e = cc
 
 -- and its heap
 pub opening_within : (limit : ℕ) → IsWithinTurns (empty_heap limit) 0
@@ -70,13 +75,19 @@ opening_within limit = record {
     none_moved = λ moving fixing. is_moved-empty limit;
     none_grey = λ phase. record { listed = refl; objects = λ a e. white_grey (sym (white_where_none (empty_heap limit) a (is_occupied-empty limit a)) ∙ e) };
   };
-  rests = inl refl;
+  rests = (λ e. idle_moving e, λ e. idle_fixing e);
   born = lit≤ tt;
   minor_verdicts = lit≤ tt;
   other_verdicts = lit≤ tt;
   freed = lit≤ tt;
 }
   where
+    idle_moving : Idle ≢ Moving
+    idle_moving e = cc
+
+    idle_fixing : Idle ≢ Fixing
+    idle_fixing e = cc
+
     idle_sweeping : Idle ≢ Sweeping
     idle_sweeping e = cc
 

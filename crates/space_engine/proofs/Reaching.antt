@@ -127,7 +127,7 @@ module _ (v : View) (s : State) (h : Holds v s) (unmoved : s.heap.left ≡ empty
 
   -- a start or a child by name is one by address
 
-  start_live : (name : ℕ) → IsStart s name → (address : ℕ) × IsAt name address × heap.IsStart v.heap (root_words v.roots) v.stack address
+  pub start_live : (name : ℕ) → IsStart s name → (address : ℕ) × IsAt name address × heap.IsStart v.heap (root_words v.roots) v.stack address
   start_live name start = ⊎_elim
       (λ m.
       let at = some_get (get s.heap.place name) (h.sound.names.roots_present name m) in (

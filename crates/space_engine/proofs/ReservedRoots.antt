@@ -1,8 +1,9 @@
 -- A root whose place was made before it is written: what it holds then, and what a collection makes of its place.
-use Rattle.std.proofs.Common.{◌≡◌, ℕ, zero, suc, length, List, [], ◌∷◌, ◌++◌, Bool, true, false, None, refl, sym, ap, ◌∙◌, subst, IsTrue, if◌then◌else◌, ⊎_elim, inl, inr}
+use Rattle.std.proofs.Common.{◌≡◌, ◌⊎◌, ℕ, List, [], ◌∷◌, ◌++◌, Bool, true, false, None, refl, sym, ap, ◌∙◌, subst, IsTrue, if◌then◌else◌, ⊎_elim, inl, inr}
 use Rattle.std.proofs.lemmas.Bool.{eqb-true, or_cases, false≢true}
 use Rattle.std.proofs.lemmas.List.{map-append}
-use Rattle.space_model.specs.declared.event.Kind.TheVariants.{Full}
+use Rattle.space_model.specs.declared.event.Event.{Event}
+use Rattle.space_model.specs.declared.event.Kind.TheVariants.{Major, Full}
 use Rattle.space_model.specs.declared.object.Guard.{Guard}
 use Rattle.space_model.specs.declared.object.Style.{Style}
 use Rattle.space_model.specs.State.{State}
@@ -12,16 +13,18 @@ use Rattle.space_model.proofs.WholeLaws.{counted_also}
 use Rattle.space_heap.specs.HeapView.{HeapView}
 use Rattle.space_heap.specs.Marking.{unmarked}
 use Rattle.space_heap.specs.Objects.{is_object}
+use Rattle.space_major.specs.Incremental.{IsMarkedAtEnd}
 use Rattle.space_tracing.specs.Graph.{IsChild, IsNamed, IsStart, IsLive}
+use Rattle.space_tracing.specs.Marking.{IsMarked}
 use Rattle.space_tracing.proofs.Noted.{noted_by}
 use Rattle.space_roots.specs.WordRoots.{root_word, root_words}
 use Rattle.space_roots.proofs.RootLemmas.{with_root_word-reserved, without_root-reserved}
-use Rattle.space_collector.specs.PagesSwept.{SweepsPages}
-use Rattle.space_collector.proofs.PageSweeps.{is_object-first}
 use Rattle.space_engine.specs.Allocations.{IsReserved, IsReservedAndSwept, IsSwept, IsRootedAllocation}
 use Rattle.space_engine.specs.Stands.{Holds}
 use Rattle.space_engine.specs.Views.{View, with_heap, with_root_dropped, with_root_reserved, with_root_written}
-use Rattle.space_engine.specs.HeapCollections.{IsHeapCollection}
+use Rattle.space_engine.specs.HeapCollections.{IsTelling, IsHeapCompletion, IsHeapCollection}
+use Rattle.space_engine.specs.Turns.{IsAtRest}
+use Rattle.space_engine.proofs.Collecting.{completes_to}
 use Rattle.space_engine.proofs.FieldWords.{nothing_at_zero}
 
 module _ (v : View) (root : List ℕ) where
@@ -82,11 +85,24 @@ reserved_after v w root is_new pool r = record {
 
 -- a word that names no object starts nothing
 
+start_more : (heap : HeapView) (roots others stack : List ℕ) → ((n : ℕ) → IsNamed heap roots n → IsNamed heap others n) → (n : ℕ) →
+    IsStart heap roots stack n → IsStart heap others stack n
+start_more heap roots others stack more n start = ⊎_elim (λ r. inl (more n r)) (λ w. inr w) start
+
 live_more : (heap : HeapView) (roots others stack : List ℕ) → ((n : ℕ) → IsNamed heap roots n → IsNamed heap others n) → (n : ℕ) → IsLive heap roots stack n →
     IsLive heap others stack n
 live_more heap roots others stack more = IsReached-mono (IsChild heap) (IsChild heap) (IsStart heap roots stack) (IsStart heap others stack)
     (λ m n c. c)
-    (λ n start. IsReached-start (IsChild heap) (IsStart heap others stack) n (⊎_elim (λ r. inl (more n r)) (λ w. inr w) start))
+    (λ n start. IsReached-start (IsChild heap) (IsStart heap others stack) n (start_more heap roots others stack more n start))
+
+at_end_more : (heap : HeapView) (roots others stack : List ℕ) → ((n : ℕ) → IsNamed heap roots n → IsNamed heap others n) → (n : ℕ) →
+    IsMarkedAtEnd heap roots stack n → IsMarkedAtEnd heap others stack n
+at_end_more heap roots others stack more = IsReached-mono (IsChild heap) (IsChild heap)
+    (λ a. IsMarked heap a ⊎ IsStart heap roots stack a)
+    (λ a. IsMarked heap a ⊎ IsStart heap others stack a)
+    (λ m n c. c)
+    (λ n first. IsReached-start (IsChild heap) (λ a. IsMarked heap a ⊎ IsStart heap others stack a) n
+    (⊎_elim (λ was. inl was) (λ start. inr (start_more heap roots others stack more n start)) first))
 
 named_before : (heap : HeapView) (words : List ℕ) → is_object heap 0 ≡ false → (n : ℕ) → IsNamed heap (words ++ 0 ∷ []) n → IsNamed heap words n
 named_before heap words none n (is, m) = (
@@ -103,55 +119,105 @@ named_before heap words none n (is, m) = (
 named_after : (heap : HeapView) (words : List ℕ) (n : ℕ) → IsNamed heap words n → IsNamed heap (words ++ 0 ∷ []) n
 named_after heap words n (is, m) = (is, member_left words (0 ∷ []) n m)
 
--- a full collection from words that lead to the same objects
-same_collection : (old new : HeapView) (roots others stack : List ℕ) (scans : ℕ) (names : List ℕ) (c : IsHeapCollection old new Full roots stack scans names) →
-    ((n : ℕ) → IsNamed c.idle roots n → IsNamed c.idle others n) → ((n : ℕ) → IsNamed c.idle others n → IsNamed c.idle roots n) →
-    IsHeapCollection old new Full others stack scans names
-same_collection old new roots others stack scans names c there back =
-    let to = live_more c.idle roots others stack there in
-    let from = live_more c.idle others roots stack back in
-    record {
-      sound = c.sound;
-      idle = c.idle;
-      completes = c.completes;
-      verdict = record {
-        marked = c.verdict.marked;
-        marking = let m = c.verdict.marking in record {
-          same = m.same;
-          marks = λ ready a. ((λ x. to a ((m.marks ready a).0 x)), (λ l. (m.marks ready a).1 (from a l)));
-          notes = noted_by (unmarked c.idle) c.verdict.marked (IsLive c.idle roots stack) (IsLive c.idle others stack) to from m.notes;
-          scanned = counted_also (IsLive c.idle roots stack) (IsLive c.idle others stack) scans (λ a. ((λ l. to a l), (λ l. from a l))) m.scanned;
-          none_grey = m.none_grey;
+-- from words that name the same objects the same is marked
+module _ (old new : HeapView) (roots others stack : List ℕ) (scans : ℕ) (events : List Event)
+    (there : (n : ℕ) → IsNamed old roots n → IsNamed old others n) (back : (n : ℕ) → IsNamed old others n → IsNamed old roots n) where
+  -- at the end of a marking
+  same_end : IsTelling old new Major roots stack scans events → IsTelling old new Major others stack scans events
+  same_end t = record {
+    verdict =
+        let c = t.verdict in
+        let m = c.marking in
+        record {
+          marked = c.marked;
+          marking = record {
+            same = m.same;
+            marks = λ ready a. (
+              (λ x. at_end_more old roots others stack there a ((m.marks ready a).0 x)),
+              (λ l. (m.marks ready a).1 (at_end_more old others roots stack back a l)),
+            );
+            notes = m.notes;
+            scanned = m.scanned;
+            none_grey = m.none_grey;
+          };
+          settles = c.settles;
+          sound = c.sound;
         };
-        settles = c.verdict.settles;
-        sound = c.verdict.sound;
-      };
-      few = c.few;
-      names_are = c.names_are;
-    }
+    few = t.few;
+    events_are = t.events_are;
+  }
 
--- what is an object stays one where pages are swept
-is_object_swept : (pages : ℕ) (v w : HeapView) → SweepsPages pages v w → (a : ℕ) → is_object w a ≡ is_object v a
-is_object_swept zero v w same a = ap (λ (w : HeapView). is_object w a) same
-is_object_swept (suc pages) v w (freed, mid, first, others) a = is_object_swept pages mid w others a ∙ is_object-first v mid freed first a
+  -- and by a whole one
+  same_whole : IsTelling old new Full roots stack scans events → IsTelling old new Full others stack scans events
+  same_whole t =
+      let to = live_more old roots others stack there in
+      let from = live_more old others roots stack back in
+      record {
+        verdict =
+            let c = t.verdict in
+            let m = c.marking in
+            record {
+              marked = c.marked;
+              marking = record {
+                same = m.same;
+                marks = λ ready a. ((λ x. to a ((m.marks ready a).0 x)), (λ l. (m.marks ready a).1 (from a l)));
+                notes = noted_by (unmarked old) c.marked (IsLive old roots stack) (IsLive old others stack) to from m.notes;
+                scanned = counted_also (IsLive old roots stack) (IsLive old others stack) scans (λ a. ((λ l. to a l), (λ l. from a l))) m.scanned;
+                none_grey = m.none_grey;
+              };
+              settles = c.settles;
+              sound = c.sound;
+            };
+        few = t.few;
+        events_are = t.events_are;
+      }
 
 -- the place that is made for a root has no part in a collection
+module _ (v : View) (s : State) (h : Holds v s) (rests : IsAtRest v.heap) (z : HeapView) (ended scans : ℕ) (events : List Event) where
+  abbrev words : List ℕ
+  words = root_words v.roots
 
-collection_before : (v : View) (root : List ℕ) (is_new : Bool) (z : HeapView) (scans : ℕ) (names : List ℕ) → is_object v.heap 0 ≡ false →
-    IsHeapCollection v.heap z Full (root_words (with_root_reserved v root is_new).roots) v.stack scans names →
-    IsHeapCollection v.heap z Full (root_words v.roots) v.stack scans names
-collection_before v root true z scans names none c =
-    let its : IsHeapCollection v.heap z Full (root_words v.roots ++ 0 ∷ []) v.stack scans names =
-    subst (λ words. IsHeapCollection v.heap z Full words v.stack scans names) (map-append (λ (root : List ℕ × ℕ). root.1) v.roots ((root, 0) ∷ [])) c in
-    let nothing : is_object its.idle 0 ≡ false = is_object_swept (length v.heap.unswept) v.heap its.idle its.completes 0 ∙ none in
-    same_collection v.heap z (root_words v.roots ++ 0 ∷ []) (root_words v.roots) v.stack scans names its
-    (named_before its.idle (root_words v.roots) nothing)
-    (named_after its.idle (root_words v.roots))
-collection_before v root false z scans names none c = c
+  same_completion : (idle : HeapView) (completion : List Event) → IsHeapCompletion v.heap idle (words ++ 0 ∷ []) v.stack ended completion →
+      IsHeapCompletion v.heap idle words v.stack ended completion
+  same_completion idle completion c = record {
+    marking = λ marking.
+        let both = c.marking marking in
+        record {
+          judged = both.judged;
+          tells = same_end v.heap both.judged (words ++ 0 ∷ []) words v.stack ended completion
+              (named_before v.heap words (nothing_at_zero v s h))
+              (named_after v.heap words)
+              both.tells;
+          sweeps = both.sweeps;
+        };
+    others = c.others;
+  }
 
-pub collection_reserved : (v : View) (s : State) → Holds v s → (r : View) (root : List ℕ) (is_new : Bool) → IsReserved v r root is_new →
-    (z : HeapView) (scans : ℕ) (names : List ℕ) →
-    IsHeapCollection r.heap z Full (root_words r.roots) r.stack scans names → IsHeapCollection v.heap z Full (root_words v.roots) v.stack scans names
-collection_reserved v s h r root is_new reserved z scans names c =
-    collection_before v root is_new z scans names (nothing_at_zero v s h)
-    (subst (λ (r : View). IsHeapCollection r.heap z Full (root_words r.roots) r.stack scans names) reserved.becomes c)
+  -- the words of the roots are the same after the completion, and there too nothing lies at 0
+  same_collection : IsHeapCollection v.heap z Full (words ++ 0 ∷ []) v.stack ended scans events →
+      IsHeapCollection v.heap z Full words v.stack ended scans events
+  same_collection c =
+      let completes = same_completion c.idle c.completion c.completes in
+      let to = completes_to v s h rests c.idle ended c.completion completes in
+      let nothing = nothing_at_zero (with_heap v c.idle) to.state to.holds in
+      record {
+        idle = c.idle;
+        completion = c.completion;
+        completes = completes;
+        told = c.told;
+        tells = same_whole c.idle z (words ++ 0 ∷ []) words v.stack scans c.told (named_before c.idle words nothing) (named_after c.idle words) c.tells;
+        events_are = c.events_are;
+      }
+
+  collection_before : (root : List ℕ) (is_new : Bool) →
+      IsHeapCollection v.heap z Full (root_words (with_root_reserved v root is_new).roots) v.stack ended scans events →
+      IsHeapCollection v.heap z Full words v.stack ended scans events
+  collection_before root true c = same_collection
+      (subst (λ words. IsHeapCollection v.heap z Full words v.stack ended scans events)
+      (map-append (λ (root : List ℕ × ℕ). root.1) v.roots ((root, 0) ∷ [])) c)
+  collection_before root false c = c
+
+  pub collection_reserved : (r : View) (root : List ℕ) (is_new : Bool) → IsReserved v r root is_new →
+      IsHeapCollection r.heap z Full (root_words r.roots) r.stack ended scans events → IsHeapCollection v.heap z Full words v.stack ended scans events
+  collection_reserved r root is_new reserved c = collection_before root is_new
+      (subst (λ (r : View). IsHeapCollection r.heap z Full (root_words r.roots) r.stack ended scans events) reserved.becomes c)

@@ -1,6 +1,6 @@
 -- What `stat` counts of the heap are the counts of the state.
-use Rattle.std.proofs.Common.{◌≡◌, ℕ, ◌≤◌, true, false, true≢false, List, length, map, nat_eq, refl, sym, ap, ◌∙◌, subst, arith, Option, None, Some, ⊎_elim}
-use Rattle.std.specs.Prelude.{◌↔◌, is_some}
+use Rattle.std.proofs.Common.{◌≡◌, ℕ, ◌≤◌, true, false, true≢false, map, nat_eq, refl, sym, ap, ◌∙◌, subst, arith, Option, None, Some, ⊎_elim}
+use Rattle.std.specs.Prelude.{is_some}
 use Rattle.std.specs.Cmp.{nat_eq_equiv}
 use Rattle.std.specs.FinMap.{get}
 use Rattle.std.specs.Set.{is_member}
@@ -33,7 +33,7 @@ use Rattle.space_heap.proofs.SlotAddresses.{slot_in-address, slot_in_parts}
 use Rattle.space_heap.proofs.VacantLaws.{VacantParts, vacant_parts, vacant_from, slot_of_pool, no_slot_of_spare}
 use Rattle.space_collector.specs.GoneNames.{name_at}
 use Rattle.space_stat.specs.HeapCounts.{AreHeapCounts}
-use Rattle.space_engine.specs.Stands.{Represents, Holds}
+use Rattle.space_engine.specs.Stands.{Holds}
 use Rattle.space_engine.specs.Steps.{Answers}
 use Rattle.space_engine.specs.Views.{View}
 use Rattle.space_engine.proofs.GenerationsByName.{old_by_name}

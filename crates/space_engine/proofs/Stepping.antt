@@ -1,29 +1,29 @@
 -- A step, from the answer and what was written.
-use Rattle.std.proofs.Common.{◌≡◌, List, [], ◌∷◌, ◌++◌, map, ℕ, ◌+◌, refl, sym, ap, ◌∙◌, subst, arith, Option}
+use Rattle.std.proofs.Common.{◌≡◌, List, [], ◌∷◌, ◌++◌, map, ℕ, refl, sym, ap, ◌∙◌, subst, Option}
 use Rattle.std.specs.Io.KnownBytes.{Appends}
 use Rattle.std.proofs.KnownBytes.{Appends-nil, Appends-trans}
 use Rattle.space_io.specs.Sinks.{AppendsPrefix}
 use Rattle.std.proofs.lemmas.List.{append-nil}
 use Rattle.space_model.specs.declared.command.Command.{Command}
-use Rattle.space_model.specs.declared.command.Command.TheVariants.{New, Load, Minor, Gc}
+use Rattle.space_model.specs.declared.command.Command.TheVariants.{New, Minor, Gc, Major, Finish}
 use Rattle.space_model.specs.declared.event.Event.{Event}
 use Rattle.space_model.specs.declared.reply.Reply.{Reply}
-use Rattle.space_model.specs.declared.reply.Reply.TheVariants.{Made, Full, NoMemory, Done, Pushed, Read, Truth, Scanned, SweepCount, StatLine, Refused}
+use Rattle.space_model.specs.declared.reply.Reply.TheVariants.{Made, Full, NoMemory, Done, Pushed, Read, Truth, Scanned, Marked, SweepCount, StatLine, Refused}
 use Rattle.space_model.specs.Lawful.{Lawful}
 use Rattle.space_model.specs.Outputs.{Output, Told, Replied}
 use Rattle.space_model.specs.Given.{IsGiven}
 use Rattle.space_model.specs.Spelling.{IsSpelled}
 use Rattle.space_model.specs.State.{State}
-use Rattle.space_model.specs.Texts.{text_of, reply_pieces, line_of_pieces, AreSpelled}
+use Rattle.space_model.specs.Texts.{text_of, reply_pieces, line_of_pieces}
 use Rattle.space_model.proofs.Replying.{Effects-replied}
 use Rattle.space_model.proofs.SoundKept.{lawful_sound}
-use Rattle.space_engine.specs.declared.counts.Counts.{Counts}
 use Rattle.space_engine.specs.Answered.{IsLawfulAnswer, IsAnswered, IsCutOff}
-use Rattle.space_engine.specs.Counting.{no_counts, reply_counts, output_counts, sum_of_counts, counts_of}
+use Rattle.space_engine.specs.Counting.{no_counts, reply_counts, sum_of_counts, counts_of}
 use Rattle.space_engine.specs.Stands.{Holds}
 use Rattle.space_engine.specs.Steps.{IsQuiet, Answers, AnswersWith, AreDone, LawfulSteps}
-use Rattle.space_engine.specs.Ticks.{RisesByFewer, IsReplyTicked, IsTicked}
+use Rattle.space_engine.specs.Ticks.{IsReplyTicked, IsTicked}
 use Rattle.space_engine.specs.Views.{View, SpaceView}
+use Rattle.space_engine.proofs.OutputLists.{counts_of-append, AreSpelled-append}
 use Rattle.space_collector.proofs.ToldLines.{text_of-append, prefix_after, prefix_longer}
 
 -- a command that told no events
@@ -45,6 +45,8 @@ reply_ticked : (s : State) (command : Command) (reply : Reply) (ticks ticked : �
 reply_ticked s (New root fields guard style) reply ticks ticked quiet rose = absurd quiet
 reply_ticked s Minor reply ticks ticked quiet rose = absurd quiet
 reply_ticked s Gc reply ticks ticked quiet rose = absurd quiet
+reply_ticked s Major reply ticks ticked quiet rose = absurd quiet
+reply_ticked s Finish reply ticks ticked quiet rose = absurd quiet
 reply_ticked s command reply ticks ticked quiet rose = rose
 
 pub answered_quietly : (old new : View) (command : Command) (reply : Reply) (known : Option (List ℕ)) (ticks ticked : ℕ) → IsQuiet command →
@@ -54,12 +56,6 @@ answered_quietly old new command reply known ticks ticked quiet answer rose =
     answered_silently old new command reply known ticks ticked
     (λ s h. let a = answer s h in record { state = a.state; represents = a.represents; effects = Effects-replied s command reply a.state a.replies })
     (λ s h. reply_ticked s command reply ticks ticked quiet rose)
-
--- and the ledger's count rises by one at most
-pub reply_rises : (command : Command) (reply : Reply) (ticks ticked : ℕ) → IsReplyTicked command reply ticks ticked → RisesByFewer ticks ticked
-reply_rises (Load root object index) (Refused why) ticks ticked rose = (omega arith, omega arith)
-reply_rises (Load root object index) reply ticks ticked rose = (omega arith, omega arith)
-reply_rises command reply ticks ticked rose = (omega arith, omega arith)
 
 -- the counts of an only reply are its own
 counts_of_one : (reply : Reply) → counts_of (Replied reply ∷ []) ≡ reply_counts reply
@@ -71,45 +67,10 @@ counts_of_one (Pushed word names) = refl
 counts_of_one (Read value) = refl
 counts_of_one (Truth told) = refl
 counts_of_one (Scanned count) = refl
+counts_of_one (Marked scans grey) = refl
 counts_of_one (SweepCount freed left) = refl
 counts_of_one (StatLine stat) = refl
 counts_of_one (Refused why) = refl
-
-plus_none : (a : ℕ) → 0 + a ≡ a
-plus_none a = omega arith
-
-plus_assoc : (a b c : ℕ) → a + b + c ≡ a + (b + c)
-plus_assoc a b c = omega arith
-
-sum_none : (a : Counts) → sum_of_counts no_counts a ≡ a
-sum_none a = λ i. record {
-  objects = plus_none a.objects i;
-  gone = plus_none a.gone i;
-  moves = plus_none a.moves i;
-  finals = plus_none a.finals i;
-  full = plus_none a.full i;
-  errors = plus_none a.errors i;
-  no_memory = plus_none a.no_memory i;
-}
-
-sum_assoc : (a b c : Counts) → sum_of_counts (sum_of_counts a b) c ≡ sum_of_counts a (sum_of_counts b c)
-sum_assoc a b c = λ i. record {
-  objects = plus_assoc a.objects b.objects c.objects i;
-  gone = plus_assoc a.gone b.gone c.gone i;
-  moves = plus_assoc a.moves b.moves c.moves i;
-  finals = plus_assoc a.finals b.finals c.finals i;
-  full = plus_assoc a.full b.full c.full i;
-  errors = plus_assoc a.errors b.errors c.errors i;
-  no_memory = plus_assoc a.no_memory b.no_memory c.no_memory i;
-}
-
-counts_of-append : (xs ys : List Output) → counts_of (xs ++ ys) ≡ sum_of_counts (counts_of xs) (counts_of ys)
-counts_of-append [] ys = sym (sum_none (counts_of ys))
-counts_of-append (x ∷ xs) ys = ap (sum_of_counts (output_counts x)) (counts_of-append xs ys) ∙ sym (sum_assoc (output_counts x) (counts_of xs) (counts_of ys))
-
-AreSpelled-append : (xs ys : List Output) → AreSpelled xs → AreSpelled ys → AreSpelled (xs ++ ys)
-AreSpelled-append [] ys first second = second
-AreSpelled-append (x ∷ xs) ys first second = (first.0, AreSpelled-append xs ys first.1 second)
 
 module _ (events : List Event) (reply : Reply) where
   abbrev outputs : List Output

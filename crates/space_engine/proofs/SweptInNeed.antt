@@ -1,12 +1,11 @@
 -- After pages were swept in need of a free address, the heap has what the state has after it.
-use Rattle.std.proofs.Common.{arith, [], ◌≡◌, ◌+◌, length, ap, subst, ⊎_elim, ℕ, zero, suc, true≢false, refl, sym, ◌∙◌}
-use Rattle.space_model.specs.declared.phase.Phase.TheVariants.{Idle, Sweeping}
+use Rattle.std.proofs.Common.{arith, [], ◌≡◌, ◌+◌, length, ap, subst, ℕ, zero, suc, true≢false, refl, sym, ◌∙◌}
+use Rattle.space_model.specs.declared.phase.Phase.TheVariants.{Sweeping}
 use Rattle.space_model.specs.Completions.{CompletesIn, Completes}
 use Rattle.space_model.specs.Sound.{Sound, SoundSweep}
 use Rattle.space_model.specs.Sweeps.{Sweeps}
 use Rattle.space_model.proofs.SweepKept.{sweeping}
 use Rattle.space_model.proofs.SweptLaws.{Sweeps-counted}
-use Rattle.space_engine.specs.Turns.{IsAtRest}
 use Rattle.space_model.specs.NewCommand.{SweepsInNeed as ModelSweepsInNeed}
 use Rattle.space_model.specs.Places.{HasNoFreeAddress}
 use Rattle.space_model.specs.State.{State}
@@ -76,29 +75,16 @@ until_free_holds v s z pool h sound sound_after swept =
       };
     }
 
--- sweeps in vain are a completion, where nothing is under way after them
-
--- the phase before was Sweeping where a page was swept, and each page that waited was
-completes_in_need : (pages : ℕ) (s : State) (pool : ℕ) (t : State) → Sound s → t.collector.phase ≡ Idle → t.heap.unswept ≡ [] →
-    ModelSweepsInNeed pages s pool t → Completes s [] t
-completes_in_need zero s pool t h idle none same =
-    let at : s.collector.phase ≡ Idle = sym (ap (λ (u : State). u.collector.phase) same) ∙ idle in
-    subst (λ phase. CompletesIn phase s [] t) (sym at) (refl, same)
-completes_in_need (suc pages) s pool t h idle none (full, freed, mid, step, more) =
+-- sweeps in vain are a completion, where pages waited
+pub completes_in_vain : (pages : ℕ) (s : State) (pool : ℕ) (t : State) → Sound s → t.heap.unswept ≡ [] → ModelSweepsInNeed (suc pages) s pool t →
+    (s.collector.phase ≡ Sweeping) × Completes s [] t
+completes_in_vain pages s pool t h none (full, freed, mid, step, more) =
     let all = in_need_sweeps (suc pages) s pool t (full, freed, mid, step, more) in
     let at : s.collector.phase ≡ Sweeping =
     sweeping s.collector.phase s.heap.pages step.page step.others (subst (SoundSweep s.collector.phase s.heap.pages) step.first h.sweep) in
     let left : length t.heap.unswept + suc pages ≡ length s.heap.unswept = (Sweeps-counted (suc pages) s t all.0 all.1).0 in
     let waits : length t.heap.unswept ≡ 0 = ap length none in
-    let long : suc pages ≡ length s.heap.unswept = omega (arith, left, waits) in
-    subst (λ phase. CompletesIn phase s [] t) (sym at) (all.0, refl, subst (λ pages. Sweeps pages s all.0 t) long all.1)
-
--- in a state where no page waits nothing is under way, where the heap is at rest
-pub idle_in_vain : (v : View) (t : State) → Holds v t → IsAtRest v.heap → t.heap.unswept ≡ [] → t.collector.phase ≡ Idle
-idle_in_vain v t h rests none = ⊎_elim
-    (λ idle. sym h.represents.heap.progress.at ∙ idle)
-    (λ waits. absurd (h.sound.sweep.some (sym h.represents.heap.progress.at ∙ waits) none))
-    rests
-
-pub completes_in_vain : (s : State) (pool : ℕ) (t : State) → Sound s → t.collector.phase ≡ Idle → IsSweptInVain s pool t → Completes s [] t
-completes_in_vain s pool t h idle vain = completes_in_need vain.pages s pool t h idle vain.none_waits vain.sweeps
+    let long : suc pages ≡ length s.heap.unswept = omega (arith, left, waits) in (
+      at,
+      subst (λ phase. CompletesIn phase s [] t) (sym at) (all.0, refl, subst (λ pages. Sweeps pages s all.0 t) long all.1),
+    )

@@ -21,6 +21,7 @@ use Rattle.space_model.specs.State.{State}
 use Rattle.space_model.proofs.CollectionsKept.{Sound-swept}
 use Rattle.space_model.proofs.CorpseNames.{corpse_names, corpse_names-are}
 use Rattle.space_model.proofs.MapLaws.{get-without, held_without}
+use Rattle.space_model.proofs.MarkingKept.{sweeps_mark_none}
 use Rattle.space_model.proofs.PageLaws.{pool_at-spared, pool_at-spared_page, length-spared, user, used_by}
 use Rattle.space_model.proofs.SweepKept.{sweeping}
 use Rattle.space_model.proofs.VerdictLaws.{CountIs-unique}
@@ -250,7 +251,8 @@ module _ (v : View) (s : State) (h : Holds v s) (sound : IsSoundHeap v.heap) (z 
     };
     generations = generations_same s.graph s.heap.place s.collector s.history.mixed (mixed_names (swept s page step.others names)) heap z
         (λ n a e. object_stays-first heap z freed step a (h.represents.heap.objects.stands n a e)) (sweep_phase step.others) s.collector.cursor
-        s.collector.stale h.represents.generations;
+        s.collector.stale (λ rest e. let at = at_sweeping in cc) (λ e. absurd (sweeps_mark_none step.others e)) h.represents.generations;
+    colours = λ e. absurd (sweeps_mark_none step.others e);
     roots = resolved_roots-same heap z (resolved-first heap z freed step) v.roots ∙ h.represents.roots;
     stack = h.represents.stack;
   }

@@ -1,6 +1,7 @@
 -- How far pieces of work change a heap's counts, and that they leave a quiescent heap at rest so.
-use Rattle.std.proofs.Common.{◌≡◌, inl, inr, ℕ, ◌+◌, ◌*◌, ◌≤◌, nat_eq, refl, sym, ap, ◌∙◌, arith, ⊎_elim}
+use Rattle.std.proofs.Common.{◌≡◌, ◌≢◌, ℕ, ◌+◌, ◌*◌, ◌≤◌, nat_eq, refl, sym, ap, ◌∙◌, arith, ⊎_elim}
 use Rattle.std.specs.Set.{is_member}
+use Rattle.space_model.specs.declared.phase.Phase.TheVariants.{Idle, Marking, Moving, Fixing}
 use Rattle.space_model.specs.Layout.{page_of}
 use Rattle.space_heap.specs.declared.colour.Colour.TheVariants.{Grey}
 use Rattle.space_heap.specs.Slots.{ObjectView}
@@ -15,14 +16,14 @@ use Rattle.space_collector.specs.PagesSwept.{LeavesRest}
 use Rattle.space_collector.specs.Quiescent.{IsQuiescent, most_slots}
 use Rattle.space_engine.specs.Turns.{IsAtRest, IsWork, IsOneTurn}
 
--- heaps that are at the same point, and in which the same is gone, moved and grey
+-- heaps that are at the same point, and in which the same is gone and moved; and outside a marking the same is grey
 pub record IsAlike (v w : HeapView) : Type 0 where
   pub phase : w.phase ≡ v.phase
   pub unswept : w.unswept ≡ v.unswept
-  pub grey : w.grey ≡ v.grey
+  pub grey : v.phase ≢ Marking → w.grey ≡ v.grey
   pub gone : (a : ℕ) → is_gone w a ≡ is_gone v a
   pub moved : (a : ℕ) → is_moved w a ≡ is_moved v a
-  pub grey_was : (a : ℕ) → colour_of w a ≡ Grey → colour_of v a ≡ Grey
+  pub grey_was : v.phase ≢ Marking → (a : ℕ) → colour_of w a ≡ Grey → colour_of v a ≡ Grey
 
 -- are quiescent alike
 pub quiescent_alike : (v w : HeapView) → IsAlike v w → IsQuiescent v → IsQuiescent w
@@ -32,17 +33,28 @@ quiescent_alike v w alike q = record {
   some_wait = λ e none. q.some_wait (sym alike.phase ∙ e) (sym alike.unswept ∙ none);
   none_moved = λ not_moving not_fixing a. alike.moved a ∙ q.none_moved (λ e. not_moving (alike.phase ∙ e)) (λ e. not_fixing (alike.phase ∙ e)) a;
   none_grey = λ not.
-      let none = q.none_grey (λ e. not (alike.phase ∙ e)) in
-      record { listed = alike.grey ∙ none.listed; objects = λ a e. none.objects a (alike.grey_was a e) };
+      let rests : v.phase ≢ Marking = λ e. not (alike.phase ∙ e) in
+      let none = q.none_grey rests in
+      record { listed = alike.grey rests ∙ none.listed; objects = λ a e. none.objects a (alike.grey_was rests a e) };
 }
 
 -- a heap is at rest where its phase is that of one that is
 pub rests_alike : (v w : HeapView) → w.phase ≡ v.phase → IsAtRest v → IsAtRest w
-rests_alike v w same rests = ⊎_elim (λ idle. inl (same ∙ idle)) (λ sweeping. inr (same ∙ sweeping)) rests
+rests_alike v w same rests = (λ e. rests.0 (sym same ∙ e), λ e. rests.1 (sym same ∙ e))
+
+-- one where nothing is under way is
+pub rests_idle : (w : HeapView) → w.phase ≡ Idle → IsAtRest w
+rests_idle w idle = (λ e. idle_moving (sym idle ∙ e), λ e. idle_fixing (sym idle ∙ e))
+  where
+    idle_moving : Idle ≢ Moving
+    idle_moving e = cc
+
+    idle_fixing : Idle ≢ Fixing
+    idle_fixing e = cc
 
 -- sweeps leave a heap at rest so
 rests_left : (v w : HeapView) → LeavesRest v w → IsAtRest v → IsAtRest w
-rests_left v w rest rests = ⊎_elim (λ same. rests_alike v w same rests) (λ idle. inl idle) rest.phase
+rests_left v w rest rests = ⊎_elim (λ same. rests_alike v w same rests) (λ idle. rests_idle w idle) rest.phase
 
 -- no count changed but that of objects, which rose by one at most, and a quiescent heap at rest stays such
 pub work_born : (k : ℕ) (v w : HeapView) (born : ℕ) → w.counters ≡ record v.counters { born = born } → born ≤ v.counters.born + 1 →
@@ -67,7 +79,7 @@ pub work_uncounted : (k : ℕ) (v w : HeapView) → w.counters ≡ v.counters �
 work_uncounted k v w counters quiescent rests = work_born k v w v.counters.born counters (omega arith) quiescent rests
 
 -- heaps that are alike, where no count changed
-turn_alike : (k : ℕ) (v w : HeapView) → IsAlike v w → w.counters ≡ v.counters → IsWork k v w
+pub turn_alike : (k : ℕ) (v w : HeapView) → IsAlike v w → w.counters ≡ v.counters → IsWork k v w
 turn_alike k v w alike counters = work_uncounted k v w counters (λ q rests. quiescent_alike v w alike q) (rests_alike v w alike.phase)
 
 -- pages were swept, and no more slots freed than a heap has
@@ -112,8 +124,8 @@ turn_written v address index word =
     turn_alike 3 v (written v address index word) (record {
       phase = others.phase;
       unswept = others.unswept;
-      grey = others.grey;
+      grey = λ rests. others.grey;
       gone = λ a. is_gone-with_object v address _ a refl;
       moved = λ a. is_moved-with_object v address _ a;
-      grey_was = λ a e. sym (stays (λ (o : ObjectView). o.colour) v address _ a refl) ∙ e;
+      grey_was = λ rests a e. sym (stays (λ (o : ObjectView). o.colour) v address _ a refl) ∙ e;
     }) others.counters

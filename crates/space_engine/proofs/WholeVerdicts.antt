@@ -12,12 +12,9 @@ use Rattle.space_model.specs.Verdicts.{IsVerdict}
 use Rattle.space_model.proofs.MapLaws.{some_get}
 use Rattle.space_model.proofs.SweepKept.{no_corpse}
 use Rattle.space_model.proofs.VerdictLaws.{full_verdict}
-use Rattle.space_heap.specs.declared.colour.Colour.{Colour}
-use Rattle.space_heap.specs.declared.colour.Colour.TheVariants.{White, Grey, Black}
 use Rattle.space_heap.specs.HeapView.{HeapView}
-use Rattle.space_heap.specs.Marking.{colour_of}
 use Rattle.space_heap.specs.Objects.{is_occupied, object_of}
-use Rattle.space_heap.specs.Sweeping.{is_white, HasNoGone}
+use Rattle.space_heap.specs.Sweeping.{HasNoGone}
 use Rattle.space_heap.proofs.ObjectLaws.{is_object_is}
 use Rattle.space_roots.specs.WordRoots.{root_words}
 use Rattle.space_tracing.specs.Graph.{IsLive, SameGraph}
@@ -25,18 +22,8 @@ use Rattle.space_tracing.specs.Marking.{IsMarked}
 use Rattle.space_collector.specs.GoneNames.{gone_names}
 use Rattle.space_engine.specs.Stands.{Holds}
 use Rattle.space_engine.specs.Views.{View}
-use Rattle.space_engine.proofs.AfterVerdicts.{w, unmarked_at, taken_there, taken_at, taken_rising}
+use Rattle.space_engine.proofs.AfterVerdicts.{w, taken_there, taken_rising, marked_stays, stays_marked}
 use Rattle.space_engine.proofs.Reaching.{live_from_reached, reached_from_live}
-
-pub white_is : (colour : Colour) → is_white colour ≡ true → colour ≡ White
-white_is White e = refl
-white_is Grey e = cc
-white_is Black e = cc
-
-pub not_white : (colour : Colour) → is_white colour ≡ false → colour ≢ White
-not_white White e f = true≢false e
-not_white Grey e f = cc
-not_white Black e f = cc
 
 gone_is_no_object : (is_occupied gone : Bool) → gone ≡ true → (is_occupied && not gone) ≡ false
 gone_is_no_object true gone e = ap not e
@@ -57,19 +44,15 @@ module _ (v : View) (s : State) (h : Holds v s) (clean : HasNoGone v.heap) (unmo
   abbrev taken : List ℕ
   taken = gone_names (w v s h.represents clean marked same Full)
 
-  abbrev unmarked : ℕ → Bool
-  unmarked = unmarked_at v s h.represents clean marked same Full
+  -- the names that stay are the reached ones
+  reached_stays : (name address : ℕ) → get s.heap.place name ≡ Some address → Reach s name → is_member nat_eq taken name ≡ false
+  reached_stays name address e r =
+      marked_stays v s h.represents clean marked same Full name address e ((marks address).1 (live_from_reached v s h unmoved fresh name address e r))
 
-  -- the marked objects are those of the reached names
-  reached_marked : (name address : ℕ) → get s.heap.place name ≡ Some address → Reach s name → unmarked address ≡ false
-  reached_marked name address e r = ⊎_elim
-      (λ t. absurd ((marks address).1 (live_from_reached v s h unmoved fresh name address e r) (white_is (colour_of marked address) t)))
-      (λ f. f)
-      (cases_Bool (unmarked address))
-
-  marked_reached : (name address : ℕ) → get s.heap.place name ≡ Some address → unmarked address ≡ false → Reach s name
-  marked_reached name address e f =
-      let r = reached_from_live v s h unmoved fresh address ((marks address).0 (not_white (colour_of marked address) f)) in
+  stays_reached : (name address : ℕ) → get s.heap.place name ≡ Some address → is_member nat_eq taken name ≡ false → Reach s name
+  stays_reached name address e out =
+      let m = stays_marked v s h.represents clean marked same Full name address e out in
+      let r = reached_from_live v s h unmoved fresh address ((marks address).0 m) in
       subst (Reach s) (h.represents.heap.objects.is name address e).named r.1
 
   -- so the names that the verdict takes are the present ones that aren't reached
@@ -78,12 +61,11 @@ module _ (v : View) (s : State) (h : Holds v s) (clean : HasNoGone v.heap) (unmo
     λ m.
         let at = taken_there v s h.represents clean marked same Full name m in (
           ap is_some at.1,
-          λ r. true≢false (sym at.2 ∙ reached_marked name at.0 at.1 r),
+          λ r. true≢false (sym m ∙ reached_stays name at.0 at.1 r),
         ),
     λ (present, lost).
         let at = some_get (get s.heap.place name) present in
-        taken_at v s h.represents clean marked same Full name at.0 at.1
-        ∙ ⊎_elim (λ t. t) (λ f. absurd (lost (marked_reached name at.0 at.1 f))) (cases_Bool (unmarked at.0)),
+        ⊎_elim (λ t. t) (λ f. absurd (lost (stays_reached name at.0 at.1 f))) (cases_Bool (is_member nat_eq taken name)),
   )
 
   pub settled_verdict : IsVerdict s Full taken

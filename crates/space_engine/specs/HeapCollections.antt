@@ -1,55 +1,89 @@
--- What a collection of one kind does to a heap, and which of its lines were written.
-use Rattle.std.specs.Prelude.{◌≡◌, ◌<◌, ◌≤◌, ◌+◌, ◌^◌, ℕ, List, length, map, Option}
+-- What verdicts, completions and collections do to a heap, and which of their lines were written.
+use Rattle.std.specs.Prelude.{◌≡◌, ◌≢◌, ◌<◌, ◌≤◌, ◌+◌, ◌^◌, ℕ, List, [], ◌++◌, length, map, Option}
 use Rattle.std.specs.Io.KnownBytes.{Appends}
 use Rattle.space_io.specs.Sinks.{AppendsPrefix}
 use Rattle.space_model.specs.declared.command.Command.{Command}
 use Rattle.space_model.specs.declared.command.Command.TheVariants.{Minor as MinorCommand, Gc}
+use Rattle.space_model.specs.declared.event.Event.{Event}
 use Rattle.space_model.specs.declared.event.Kind.{Kind}
-use Rattle.space_model.specs.declared.event.Kind.TheVariants.{Minor, Full}
+use Rattle.space_model.specs.declared.event.Kind.TheVariants.{Minor, Major, Full}
+use Rattle.space_model.specs.declared.phase.Phase.TheVariants.{Marking}
 use Rattle.space_model.specs.Outputs.{Told}
 use Rattle.space_model.specs.Texts.{text_of}
 use Rattle.space_model.specs.Verdicts.{verdict_events}
 use Rattle.space_heap.specs.HeapView.{HeapView}
 use Rattle.space_heap.specs.SoundHeap.{IsSoundHeap}
-use Rattle.space_heap.specs.Sweeping.{minors_after, others_after}
 use Rattle.space_collector.specs.GoneNames.{gone_names}
 use Rattle.space_collector.specs.HeapVerdicts.{IsHeapVerdict}
 use Rattle.space_collector.specs.PagesSwept.{SweepsAll}
-use Rattle.space_collector.specs.Quiescent.{most_slots, IsQuiescent}
+use Rattle.space_collector.specs.Quiescent.{IsQuiescent}
+use Rattle.space_engine.specs.Counting.{no_counts, counts_of}
 use Rattle.space_engine.specs.Turns.{IsAtRest}
 
--- what was under way was completed: every page that waited was swept; and then a marking of the kind, with so many scans, and its verdict
--- took the objects with these names. They wait for a sweep
-pub record IsHeapCollection (old new : HeapView) (kind : Kind) (roots stack : List ℕ) (scans : ℕ) (names : List ℕ) : Type 0 where
+-- a marking of the kind, with so many scans, and its verdict, of which these events tell. What it took waits for a sweep
+pub record IsTelling (old new : HeapView) (kind : Kind) (roots stack : List ℕ) (scans : ℕ) (events : List Event) : Type 0 where
+  pub verdict : IsHeapVerdict old new kind roots stack scans
+  pub few : scans < 2 ^ 27
+  pub events_are : events ≡ verdict_events kind (gone_names new)
+
+-- the marking that was under way was ended by a major verdict, and then every page was swept
+pub record EndsAndSweeps (old idle : HeapView) (roots stack : List ℕ) (scans : ℕ) (events : List Event) : Type 0 where
+  -- the heap after the verdict
+  pub judged : HeapView
+  pub tells : IsTelling old judged Major roots stack scans events
+  pub sweeps : SweepsAll judged idle
+
+-- every page that waited was swept, and nothing else was done
+pub record OnlySweeps (old idle : HeapView) (scans : ℕ) (events : List Event) : Type 0 where
   -- of every heap this holds
   pub sound : IsSoundHeap old
+  pub sweeps : SweepsAll old idle
+  pub no_scans : scans ≡ 0
+  pub no_events : events ≡ []
+
+-- what was under way was completed, with so many scans: a marking that was is ended first
+pub record IsHeapCompletion (old idle : HeapView) (roots stack : List ℕ) (scans : ℕ) (events : List Event) : Type 0 where
+  pub marking : old.phase ≡ Marking → EndsAndSweeps old idle roots stack scans events
+  pub others : old.phase ≢ Marking → OnlySweeps old idle scans events
+
+-- a collection: what was under way was completed, with scans of its own, and then came a marking of the kind and its verdict
+pub record IsHeapCollection (old new : HeapView) (kind : Kind) (roots stack : List ℕ) (ended scans : ℕ) (events : List Event) : Type 0 where
   -- the heap after the completion
   pub idle : HeapView
-  pub completes : SweepsAll old idle
-  pub verdict : IsHeapVerdict idle new kind roots stack scans
-  pub few : scans < 2 ^ 27
-  pub names_are : names ≡ gone_names new
+  pub completion : List Event
+  pub completes : IsHeapCompletion old idle roots stack ended completion
+  pub told : List Event
+  pub tells : IsTelling idle new kind roots stack scans told
+  pub events_are : events ≡ completion ++ told
 
--- the same, and its lines were written
-pub record IsToldCollection (old new : HeapView) (kind : Kind) (roots stack : List ℕ) (scans gone : ℕ) (before after : Option (List ℕ)) : Type 0 where
-  pub names : List ℕ
-  pub many : gone ≡ length names
-  pub collects : IsHeapCollection old new kind roots stack scans names
-  pub written : Appends before after (text_of (map Told (verdict_events kind names)))
+-- the same, and the ledger's count rose by the scans of both
+pub record IsTickedCollection (old new : HeapView) (kind : Kind) (roots stack : List ℕ) (scans ticks ticked : ℕ) (events : List Event) : Type 0 where
+  pub ended : ℕ
+  pub collects : IsHeapCollection old new kind roots stack ended scans events
+  pub rose : ticked ≡ ticks + ended + scans
 
--- the same, and a prefix of its lines was written
-pub record IsCutCollection (old new : HeapView) (kind : Kind) (roots stack : List ℕ) (before after : Option (List ℕ)) : Type 0 where
-  pub scans : ℕ
-  pub names : List ℕ
-  pub collects : IsHeapCollection old new kind roots stack scans names
-  pub prefix : AppendsPrefix before after (text_of (map Told (verdict_events kind names)))
+-- events of which this holds were written, and they tell of so many gone objects
+pub record AreTold (Are : List Event → Type 0) (gone : ℕ) (before after : Option (List ℕ)) : Type 0 where
+  pub events : List Event
+  pub are : Are events
+  pub counted : counts_of (map Told events) ≡ record no_counts { gone = gone }
+  pub written : Appends before after (text_of (map Told events))
 
--- no object was allocated, one verdict of the kind was done, no more slots were freed than a heap has, and the heap is quiescent and at rest
-pub record IsOneVerdict (old new : HeapView) (kind : Kind) : Type 0 where
+-- a prefix of the text of events of which this holds was written
+pub record AreCut (Are : List Event → Type 0) (before after : Option (List ℕ)) : Type 0 where
+  pub events : List Event
+  pub are : Are events
+  pub prefix : AppendsPrefix before after (text_of (map Told events))
+
+-- no object was allocated, no more verdicts of either count were done and no more slots freed than this, no page came or went, and the heap is
+-- quiescent and at rest
+pub record HasJudged (minors others slots : ℕ) (old new : HeapView) : Type 0 where
   pub born : new.counters.born ≡ old.counters.born
-  pub minor_verdicts : new.counters.minor_verdicts ≡ minors_after kind old.counters.minor_verdicts
-  pub other_verdicts : new.counters.other_verdicts ≡ others_after kind old.counters.other_verdicts
-  pub freed : new.counters.freed ≤ old.counters.freed + most_slots
+  pub minor_verdicts : new.counters.minor_verdicts ≤ old.counters.minor_verdicts + minors
+  pub other_verdicts : new.counters.other_verdicts ≤ old.counters.other_verdicts + others
+  pub freed : new.counters.freed ≤ old.counters.freed + slots
+  pub page_count : length new.pages ≡ length old.pages
+  pub limit : new.limit ≡ old.limit
   pub quiescent : IsQuiescent new
   pub rests : IsAtRest new
 

@@ -5,6 +5,7 @@ pub mod HeapCollections
 pub mod Words
 pub mod Turns
 pub mod Generations
+pub mod Colours
 pub mod Stands
 pub mod Counting
 pub mod Ticks

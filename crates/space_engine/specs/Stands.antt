@@ -13,6 +13,7 @@ use Rattle.space_heap.specs.HeapView.{HeapView, Counters as HeapCounters, pool_a
 use Rattle.space_heap.specs.Objects.{is_occupied, is_object, object_of, is_moved, resolved}
 use Rattle.space_model.specs.StoredWords.{stored_words}
 use Rattle.space_engine.specs.Generations.{HasGenerations}
+use Rattle.space_engine.specs.Colours.{HasColours}
 use Rattle.space_engine.specs.Views.{View, SpaceView}
 use Rattle.space_engine.specs.Words.{word_roots, resolved_roots}
 
@@ -77,6 +78,7 @@ pub record HeapRepresents (graph : List Item) (own : Heap) (collector : Collecto
 pub record Represents (v : View) (s : State) : Type 0 where
   pub heap : HeapRepresents s.graph s.heap s.collector s.counters v.heap
   pub generations : HasGenerations s.graph s.heap.place s.collector s.history.mixed v.heap
+  pub colours : HasColours s.graph s.heap.place s.history s.collector.phase v.heap
   pub roots : resolved_roots v.heap v.roots ≡ word_roots s.heap.place s.roots
   pub stack : s.stack ≡ v.stack
 

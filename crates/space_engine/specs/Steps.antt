@@ -2,7 +2,7 @@
 use Rattle.std.specs.Prelude.{◌≡◌, ℕ, List, [], ◌∷◌, Option}
 use Rattle.std.specs.Io.KnownBytes.{Appends}
 use Rattle.space_model.specs.declared.command.Command.{Command}
-use Rattle.space_model.specs.declared.command.Command.TheVariants.{New, Minor, Gc}
+use Rattle.space_model.specs.declared.command.Command.TheVariants.{New, Minor, Gc, Major, Finish}
 use Rattle.space_model.specs.declared.event.Event.{Event}
 use Rattle.space_model.specs.declared.reply.Reply.{Reply}
 use Rattle.space_model.specs.Lawful.{Effects, Lawful, Replies}
@@ -20,6 +20,8 @@ abbrev pub IsQuiet : Command → Type 0
 IsQuiet (New root fields guard style) = ⊥
 IsQuiet Minor = ⊥
 IsQuiet Gc = ⊥
+IsQuiet Major = ⊥
+IsQuiet Finish = ⊥
 IsQuiet _ = Unit {0}
 
 -- the reply to a command that tells no events is lawful, and the view has what the state after it has

@@ -1,25 +1,43 @@
 -- How far the ledger's count rises by a command.
-use Rattle.std.specs.Prelude.{◌≡◌, ℕ, ◌+◌, ◌^◌, ◌≤◌, ◌<◌, List, [], ◌∷◌, ◌++◌, map}
+use Rattle.std.specs.Prelude.{◌≡◌, ◌≢◌, ℕ, ◌+◌, ◌^◌, ◌≤◌, ◌<◌, List, [], ◌∷◌, ◌++◌, map}
 use Rattle.space_model.specs.declared.command.Command.{Command}
-use Rattle.space_model.specs.declared.command.Command.TheVariants.{New, Load, Minor, Gc}
+use Rattle.space_model.specs.declared.command.Command.TheVariants.{New, Load, Minor, Gc, Major, Mark, Finish}
 use Rattle.space_model.specs.declared.event.Event.{Event}
+use Rattle.space_model.specs.declared.phase.Phase.TheVariants.{Marking}
 use Rattle.space_model.specs.declared.reply.Reply.{Reply}
-use Rattle.space_model.specs.declared.reply.Reply.TheVariants.{Scanned, Refused}
+use Rattle.space_model.specs.declared.reply.Reply.TheVariants.{Scanned, Marked, Refused}
 use Rattle.space_model.specs.Completions.{Completes}
 use Rattle.space_model.specs.Counts.{CountIs}
+use Rattle.space_model.specs.MajorMarking.{EndsMarking}
 use Rattle.space_model.specs.Outputs.{Output, Told, Replied}
 use Rattle.space_model.specs.Reach.{Reach}
 use Rattle.space_model.specs.State.{State}
 
--- whatever is written, the count rises by fewer than 2 ^ 27, which is more than a heap has slots twice, or stays
-abbrev pub RisesByFewer : ℕ → ℕ → Type 0
-RisesByFewer before after = (before ≤ after) × (after < before + 2 ^ 27)
+-- whatever is written, the count rises by fewer than this, or stays
+abbrev pub RisesByFewer : ℕ → ℕ → ℕ → Type 0
+RisesByFewer few before after = (before ≤ after) × (after < before + few)
 
--- a command that tells no events: in `load` by one, where a field was read, and else not at all
+-- more than the scans of two markings of a heap, and so than any command makes
+abbrev pub most_ticks : ℕ
+most_ticks = 2 ^ 28
+
+-- a command that tells no events: in `load` by one, where a field was read, in `mark` by the scans that the reply tells, and else not at all
 abbrev pub IsReplyTicked : Command → Reply → ℕ → ℕ → Type 0
 IsReplyTicked (Load root object index) (Refused why) before after = after ≡ before
 IsReplyTicked (Load root object index) reply before after = after ≡ before + 1
+IsReplyTicked (Mark count) (Marked scans grey) before after = after ≡ before + scans
 IsReplyTicked command reply before after = after ≡ before
+
+-- the scans that complete what is under way: those that end a marking, which are as many as `finish` would tell, and else none
+pub record AreCompletionScans (s : State) (scans : ℕ) : Type 0 where
+  pub marking : s.collector.phase ≡ Marking → (events : List Event) × (judged : State) × EndsMarking s events scans judged
+  pub others : s.collector.phase ≢ Marking → scans ≡ 0
+
+-- what is under way is completed, and so many scans come after it
+pub record IsCompletedTicked (s : State) (scans before after : ℕ) : Type 0 where
+  pub ended : ℕ
+  pub ended_are : AreCompletionScans s ended
+  pub ticked : after ≡ before + ended + scans
 
 -- a whole collection: once for each name that is reached when its marking starts, which is when what was under way is completed
 pub record IsMarkingTicked (s : State) (before after : ℕ) : Type 0 where
@@ -28,13 +46,16 @@ pub record IsMarkingTicked (s : State) (before after : ℕ) : Type 0 where
   pub completes : Completes s completion idle
   pub scans : ℕ
   pub scanned : CountIs (Reach idle) scans
-  pub ticked : after ≡ before + scans
+  pub ticked : IsCompletedTicked s scans before after
 
--- by the command, its events and its reply: in `minor` and `gc` by the scans that the reply tells; in `new`, which tells events only where it collects,
--- by the scans of that collection, and without one not at all
+-- by the command, its events and its reply: in `minor` and `gc` by the scans that the reply tells, after those that complete what is under way; in
+-- `major` by the latter alone; in `finish` by the scans that the reply tells; in `new`, which tells events only where it collects, by the scans of
+-- that collection, and without one not at all
 abbrev pub IsTicked : State → Command → List Event → Reply → ℕ → ℕ → Type 0
-IsTicked s Minor events (Scanned count) before after = after ≡ before + count
-IsTicked s Gc events (Scanned count) before after = after ≡ before + count
+IsTicked s Minor events (Scanned count) before after = IsCompletedTicked s count before after
+IsTicked s Gc events (Scanned count) before after = IsCompletedTicked s count before after
+IsTicked s Major events reply before after = IsCompletedTicked s 0 before after
+IsTicked s Finish events (Scanned count) before after = after ≡ before + count
 IsTicked s (New root fields guard style) [] reply before after = after ≡ before
 IsTicked s (New root fields guard style) (event ∷ events) reply before after = IsMarkingTicked s before after
 IsTicked s command events reply before after = IsReplyTicked command reply before after

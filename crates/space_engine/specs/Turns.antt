@@ -1,19 +1,19 @@
 -- What holds of a space's heap between commands, and how far one command changes its counts.
-use Rattle.std.specs.Prelude.{◌≡◌, ◌⊎◌, ℕ, ◌+◌, ◌*◌, ◌^◌, ◌≤◌, ◌<◌}
-use Rattle.space_model.specs.declared.phase.Phase.TheVariants.{Idle, Sweeping}
+use Rattle.std.specs.Prelude.{◌≢◌, ℕ, ◌+◌, ◌*◌, ◌^◌, ◌≤◌, ◌<◌}
+use Rattle.space_model.specs.declared.phase.Phase.TheVariants.{Moving, Fixing}
 use Rattle.space_heap.specs.HeapView.{HeapView}
 use Rattle.space_collector.specs.Quiescent.{IsQuiescent, most_slots}
 
--- nothing is under way but a sweep: no command begins a marking or a compaction yet
+-- no object moves: no command begins a compaction yet
 abbrev pub IsAtRest : HeapView → Type 0
-IsAtRest heap = (heap.phase ≡ Idle) ⊎ (heap.phase ≡ Sweeping)
+IsAtRest heap = (heap.phase ≢ Moving) × (heap.phase ≢ Fixing)
 
 -- what is under way can be completed, and a collection done after it
 pub record CanCompleteAndCollect (heap : HeapView) : Type 0 where
   pub quiescent : IsQuiescent heap
   pub rests : IsAtRest heap
   pub minor_verdicts : heap.counters.minor_verdicts < 2 ^ 62
-  pub other_verdicts : heap.counters.other_verdicts < 2 ^ 62
+  pub other_verdicts : heap.counters.other_verdicts < 2 ^ 61
   pub freed : heap.counters.freed < 2 ^ 61
 
 -- one more command can be answered, whatever it is
@@ -22,12 +22,12 @@ pub record CanAnswer (heap : HeapView) : Type 0 where
   pub born : heap.counters.born < 2 ^ 62
   pub freed : heap.counters.freed < 2 ^ 60
 
--- a piece of work allocated one object at most, did one verdict of each kind at most, swept each page so many times at most, and left a
--- quiescent heap at rest such
+-- a piece of work allocated one object at most, did a verdict that ends a marking and one of a collection at most, swept each page so many times at
+-- most, and left a quiescent heap at rest such
 pub record IsWork (sweeps : ℕ) (old new : HeapView) : Type 0 where
   pub born : new.counters.born ≤ old.counters.born + 1
   pub minor_verdicts : new.counters.minor_verdicts ≤ old.counters.minor_verdicts + 1
-  pub other_verdicts : new.counters.other_verdicts ≤ old.counters.other_verdicts + 1
+  pub other_verdicts : new.counters.other_verdicts ≤ old.counters.other_verdicts + 2
   pub freed : new.counters.freed ≤ old.counters.freed + sweeps * most_slots
   pub quiescent : IsQuiescent old → IsAtRest old → IsQuiescent new
   pub rests : IsAtRest old → IsAtRest new
@@ -42,5 +42,5 @@ pub record IsWithinTurns (heap : HeapView) (turns : ℕ) : Type 0 where
   pub rests : IsAtRest heap
   pub born : heap.counters.born ≤ turns
   pub minor_verdicts : heap.counters.minor_verdicts ≤ turns
-  pub other_verdicts : heap.counters.other_verdicts ≤ turns
+  pub other_verdicts : heap.counters.other_verdicts ≤ turns * 2
   pub freed : heap.counters.freed ≤ turns * (3 * most_slots)

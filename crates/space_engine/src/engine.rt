@@ -3,13 +3,15 @@ ghost use Rattle.std.specs.Prelude.{◌≡◌, ◌≤◌, ◌<◌, ◌+◌, ◌^
 ghost use Rattle.space_io.specs.Causes.{HasCause};
 ghost use Rattle.space_model.specs.Given.{IsGiven};
 ghost use Rattle.space_model.specs.State.{opening};
-ghost use Rattle.space_engine.specs.Ticks.{RisesByFewer};
+ghost use Rattle.space_engine.specs.Ticks.{RisesByFewer, most_ticks};
 ghost use Rattle.space_engine.specs.Answered.{IsAnswered, IsCutOff};
 ghost use Rattle.space_engine.specs.Stands.{Holds};
 ghost use Rattle.space_engine.specs.Turns.{CanAnswer, IsOneTurn};
 ghost use Rattle.space_engine.specs.Views.{empty_view};
 
 mod collection_commands;
+mod completion;
+mod marking_commands;
 mod new_command;
 mod object_commands;
 mod operand_words;
@@ -91,12 +93,12 @@ impl Engine {
     ) -> Result<Answer, WriteFault>
         requires given { IsGiven command.now }
         requires able { CanAnswer self.old.heap }
-        requires steps { steps.old < 2 ^ 62 }
+        requires steps { steps.old < 2 ^ 61 }
         ensures done { IfOk result (λ answer. IsAnswered self.old self.new command.now answer.reply answer.gone (K.written sink.old) (K.written sink.new) steps.old steps.new) }
         ensures fault { OnErr result (IsCutOff self.old self.new command.now (K.written sink.old) (K.written sink.new)) }
         ensures cause { HasCause (K.faults sink.old) (K.faults sink.new) result }
         ensures turn { IsOneTurn self.old.heap self.new.heap }
-        ensures steps { RisesByFewer steps.old steps.new }
+        ensures steps { RisesByFewer most_ticks steps.old steps.new }
     {
         match command {
             Command::New {
@@ -107,6 +109,8 @@ impl Engine {
             } => self.create(root, *fields, *guard, *style, sink, steps),
             Command::Minor => self.collect_and_reply(Kind::Minor, sink, steps),
             Command::Gc => self.collect_and_reply(Kind::Full, sink, steps),
+            Command::Major => self.major(sink, steps),
+            Command::Finish => self.finish(sink, steps),
             _ => Ok(silent(self.reply(command, steps))),
         }
     }

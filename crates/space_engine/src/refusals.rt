@@ -16,6 +16,7 @@ fn rank(why: Refusal) -> u8
         Refusal::NotObject => 3,
         Refusal::NoField => 4,
         Refusal::Protected => 5,
+        Refusal::NotMarking => 6,
     }
 }
 

@@ -5,7 +5,7 @@ ghost use Rattle.space_io.specs.Sinks.{AppendsPrefix};
 ghost use Rattle.space_model.specs.Given.{IsGiven};
 ghost use Rattle.space_model.specs.State.{State, opening};
 ghost use Rattle.space_model.specs.Texts.{text_of};
-ghost use Rattle.space_engine.specs.Ticks.{RisesByFewer};
+ghost use Rattle.space_engine.specs.Ticks.{RisesByFewer, most_ticks};
 ghost use Rattle.space_engine.specs.Stands.{Stands};
 ghost use Rattle.space_engine.specs.Steps.{AreDone, LawfulSteps};
 ghost use Rattle.space_engine.specs.Views.{empty_space};
@@ -89,7 +89,7 @@ impl Space {
         requires able { self.old.is_spent ≡ false }
         requires given { IsGiven command.now }
         requires turns { self.old.turns < 2 ^ 34 }
-        requires steps { steps.old < 2 ^ 62 }
+        requires steps { steps.old < 2 ^ 61 }
 
         // The outputs are lawful, from each state that the space stands for, and it stands for a state after them. They
         // were written, and the counts are theirs. The ledger's count rises as they tell.
@@ -98,7 +98,7 @@ impl Space {
         ensures cause { HasCause (K.faults sink.old) (K.faults sink.new) result }
         ensures spent { self.new.is_spent ≡ is_err result }
         ensures turns { self.new.turns ≡ self.old.turns + 1 }
-        ensures steps { RisesByFewer steps.old steps.new }
+        ensures steps { RisesByFewer most_ticks steps.old steps.new }
     {
         self.turns += 1;
         let answer = match self.engine.answer(command, sink, steps) {

@@ -1,10 +1,12 @@
 -- A state after a piece of work is sound where its parts are: what is noted after it makes the rest so.
 use Rattle.std.proofs.Common.{◌≡◌, length, nat_eq, subst, sym, List}
 use Rattle.std.specs.List.{IsDistinct}
+use Rattle.space_model.specs.declared.phase.Phase.TheVariants.{Marking}
 use Rattle.space_model.specs.Graph.{Item}
 use Rattle.space_model.specs.Moments.{noted}
-use Rattle.space_model.specs.Sound.{Sound, SoundLayout, SoundCorpses, SoundSweep, SoundUsed, SoundResting, SoundCursor, SoundLeft, SoundStale, SoundNames, SoundKept, AreSoundItems, AreSoundRoots}
+use Rattle.space_model.specs.Sound.{Sound, SoundLayout, SoundCorpses, SoundSweep, SoundUsed, SoundResting, SoundCursor, SoundLeft, SoundStale, SoundNames, SoundKept, SoundMoments, AreSoundItems, AreSoundRoots}
 use Rattle.space_model.specs.State.{State, Heap, Collector}
+use Rattle.space_model.proofs.MarkingKept.{IsMarkingSound, SoundMarking-noted}
 use Rattle.space_model.proofs.NotedLaws.{SoundMoments-noted}
 
 -- what is asked of where objects stand, and of what the collector is at
@@ -27,6 +29,7 @@ pub record SoundParts (s : State) : Type 0 where
   pub items : AreSoundItems s.graph
   pub roots : AreSoundRoots s.roots
   pub once : IsDistinct nat_eq s.history.seen
+  pub marking : s.collector.phase ≡ Marking → IsMarkingSound s
 
 pub heap_of : (s : State) → Sound s → SoundHeap s.graph s.heap s.collector
 heap_of s h = record {
@@ -42,20 +45,27 @@ heap_of s h = record {
   outlived = h.outlived;
 }
 
+-- a state is sound where its parts are
+pub sound_of : (s : State) → SoundHeap s.graph s.heap s.collector → SoundNames s.graph s.roots s.heap.place → AreSoundItems s.graph →
+    AreSoundRoots s.roots → SoundMoments s → (s.collector.phase ≡ Marking → IsMarkingSound s) → Sound s
+sound_of s heap names items roots moments marking = record {
+  layout = heap.layout;
+  corpses = heap.corpses;
+  sweep = heap.sweep;
+  used = heap.used;
+  resting = heap.resting;
+  cursor = heap.cursor;
+  left = heap.left;
+  stale = heap.stale;
+  names = names;
+  items = items;
+  roots = roots;
+  kept = heap.kept;
+  outlived = heap.outlived;
+  moments = moments;
+  marking = marking;
+}
+
 pub after_piece : (u t : State) → t ≡ noted u → SoundParts u → Sound t
-after_piece u t e h = subst Sound (sym e) (record {
-  layout = h.heap.layout;
-  corpses = h.heap.corpses;
-  sweep = h.heap.sweep;
-  used = h.heap.used;
-  resting = h.heap.resting;
-  cursor = h.heap.cursor;
-  left = h.heap.left;
-  stale = h.heap.stale;
-  names = h.names;
-  items = h.items;
-  roots = h.roots;
-  kept = h.heap.kept;
-  outlived = h.heap.outlived;
-  moments = SoundMoments-noted u h.once;
-})
+after_piece u t e h = subst Sound (sym e)
+    (sound_of (noted u) h.heap h.names h.items h.roots (SoundMoments-noted u h.once) (λ e. SoundMarking-noted u h.names (h.marking e)))

@@ -13,14 +13,15 @@ use Rattle.space_model.specs.Layout.{page_of}
 use Rattle.space_model.specs.Maps.{without, carried_over}
 use Rattle.space_model.specs.Pages.{pool_pages, spared}
 use Rattle.space_model.specs.Reach.{IsStart}
-use Rattle.space_model.specs.Sound.{Sound, SoundNames, SoundCorpses, SoundSweep, SoundUsed}
+use Rattle.space_model.specs.Sound.{Sound, SoundMoments, SoundNames, SoundCorpses, SoundSweep, SoundUsed}
 use Rattle.space_model.specs.State.{State}
 use Rattle.space_model.specs.Verdicts.{IsVerdict}
-use Rattle.space_model.proofs.AfterPieces.{SoundHeap, after_piece}
+use Rattle.space_model.proofs.AfterPieces.{SoundHeap, heap_of, sound_of, after_piece}
 use Rattle.space_model.proofs.AgeLaws.{aged-length}
 use Rattle.space_model.proofs.CorpsesKept.{placed_swept, SoundCorpses-took, SoundCorpses-swept}
 use Rattle.space_model.proofs.KeptNames.{SoundKept-verdict}
 use Rattle.space_model.proofs.LeftKept.{SoundLeft-none, SoundStale-none}
+use Rattle.space_model.proofs.MarkingKept.{sweeps_mark_none, SoundMarking-started}
 use Rattle.space_model.proofs.MapLaws.{held_without, left-without, present-without}
 use Rattle.space_model.proofs.PageLaws.{length-spared}
 use Rattle.space_model.proofs.ReachedLaws.{member-reached_names, reached_names-once}
@@ -28,23 +29,13 @@ use Rattle.space_model.proofs.Reaching.{IsReached-start}
 use Rattle.space_model.proofs.SlotLaws.{AreSlots-part}
 use Rattle.space_model.proofs.SweepKept.{sweeping, SoundSweep-took, SoundSweep-swept, SoundUsed-took, SoundUsed-swept}
 
+-- what the start of a marking notes is what there is
+pub SoundMoments-started : (s : State) → SoundMoments (mark_started s)
+SoundMoments-started s = record { seen = λ n r. (member-reached_names s n).1 r; once = reached_names-once s; mixed = λ n m. m }
+
 pub Sound-mark_started : (s : State) → Sound s → Sound (mark_started s)
-Sound-mark_started s h = record {
-  layout = h.layout;
-  corpses = h.corpses;
-  sweep = h.sweep;
-  used = h.used;
-  resting = h.resting;
-  cursor = h.cursor;
-  left = h.left;
-  stale = h.stale;
-  names = h.names;
-  items = h.items;
-  roots = h.roots;
-  kept = h.kept;
-  outlived = h.outlived;
-  moments = record { seen = λ n r. (member-reached_names s n).1 r; once = reached_names-once s; mixed = λ n m. m };
-}
+Sound-mark_started s h = sound_of (mark_started s) (heap_of s h) h.names h.items h.roots (SoundMoments-started s)
+    (λ e. SoundMarking-started s s.collector.vague (h.marking e).open_kept h.names)
 
 pub Sound-start : (s t : State) → StartMark s t → Sound s → Sound t
 Sound-start s t e h = subst Sound (sym e) (Sound-mark_started s h)
@@ -88,6 +79,7 @@ Sound-took s t kind taken a b v e h = after_piece (took s kind taken) t e (recor
   items = h.items;
   roots = h.roots;
   once = h.moments.once;
+  marking = λ e. absurd (sweeps_mark_none (pool_pages s.heap.pages) e);
 })
 
 swept_heap : (s : State) (page : ℕ) (others freed : List ℕ) → s.heap.unswept ≡ page ∷ others →
@@ -123,6 +115,7 @@ Sound-swept s t freed p h =
       items = h.items;
       roots = h.roots;
       once = h.moments.once;
+      marking = λ e. absurd (sweeps_mark_none p.others e);
     })
 
 pub Sound-sweeps : (pages : ℕ) (s t : State) (freed : List ℕ) → Sweeps pages s freed t → Sound s → Sound t

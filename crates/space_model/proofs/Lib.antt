@@ -22,11 +22,12 @@ pub mod ValuesHold
 pub mod ValuesKept
 pub mod UnprotectedNames
 pub mod StackWords
+pub mod VerdictLaws
+pub mod MarkingKept
 pub mod AfterPieces
 pub mod CollectionsKept
 pub mod RisingNames
 pub mod CorpseNames
-pub mod VerdictLaws
 pub mod SweptLaws
 pub mod ToldNames
 pub mod PassingNames
@@ -34,6 +35,8 @@ pub mod Leaving
 pub mod WholeLaws
 pub mod MinorLaws
 pub mod Stages
+pub mod FirmNames
+pub mod MajorLaws
 pub mod RepliedPieces
 pub mod FullLaws
 pub mod StatLaws

@@ -152,7 +152,7 @@ module _ (s : State) (name index : ℕ) (value : Value) (l : AreSlots s.graph s.
   item_cases q some_q = item_of-with_item s.graph name (item_written (item_of s.graph name) index value) q some old some_q
 
   -- a child is one from before, or what was written
-  child_cases : (m n : ℕ) → 0 < m → IsChild written_graph m n → IsChild s.graph m n ⊎ (is_member nat_eq (names_of value) n ≡ true)
+  pub child_cases : (m n : ℕ) → 0 < m → IsChild written_graph m n → IsChild s.graph m n ⊎ (is_member nat_eq (names_of value) n ≡ true)
   unfolding children
   child_cases m n some_m c = ⊎_elim
       (λ (same, e). ⊎_elim

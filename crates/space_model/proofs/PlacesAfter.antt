@@ -6,7 +6,7 @@ use Rattle.std.specs.Set.{is_member}
 use Rattle.std.specs.FinMap.{get}
 use Rattle.std.proofs.lemmas.Bool.{ne_eqb, cond-true, cond-false, false≢true, false_from_ne_true, true_from_ne_false}
 use Rattle.space_model.specs.declared.command.Command.{Command}
-use Rattle.space_model.specs.declared.command.Command.TheVariants.{New, Minor, Gc}
+use Rattle.space_model.specs.declared.command.Command.TheVariants.{New, Minor, Gc, Major, Finish}
 use Rattle.space_model.specs.declared.event.Event.{Event}
 use Rattle.space_model.specs.declared.event.Kind.{Kind}
 use Rattle.space_model.specs.declared.event.Kind.TheVariants.{Minor as MinorKind, Full as FullKind}
@@ -28,9 +28,10 @@ use Rattle.space_model.specs.Sound.{Sound}
 use Rattle.space_model.specs.State.{State, Heap, is_present}
 use Rattle.space_model.specs.ToldInOrder.{AreToldInOrder}
 use Rattle.space_model.proofs.Leaving.{Leaves, leaves_swept}
+use Rattle.space_model.proofs.MajorLaws.{major_leaves, finish_leaves}
 use Rattle.space_model.proofs.MapLaws.{get-insert_name, get-without, some_get}
 use Rattle.space_model.proofs.Reaching.{IsReached-least}
-use Rattle.space_model.proofs.RepliedPieces.{IsPiece, Nothing, Root, Dropped, Stack, Field, Guard as GuardPiece, Swept, replied_piece}
+use Rattle.space_model.proofs.RepliedPieces.{IsPiece, Nothing, Root, Dropped, Stack, Field, Guard as GuardPiece, Swept, Scans, replied_piece}
 use Rattle.space_model.proofs.Stages.{passed_leaves, place_leaves}
 use Rattle.space_model.proofs.ToldNames.{gone_among, gone_outputs, AreToldInOrder-append}
 use Rattle.space_model.proofs.WholeLaws.{leaves_collection}
@@ -91,10 +92,11 @@ piece_after given s t events none (Nothing same) = same_after s t events none (s
 piece_after given s t events none (Root root value ident valid after) = same_after s t events none (ap (λ (u : State). u.heap) after)
 piece_after given s t events none (Dropped root after) = same_after s t events none (ap (λ (u : State). u.heap) after)
 piece_after given s t events none (Stack words after) = same_after s t events none (ap (λ (u : State). u.heap) after)
-piece_after given s t events none (Field name index value object valid after) = same_after s t events none (ap (λ (u : State). u.heap) after)
+piece_after given s t events none (Field name index value object valid reached after) = same_after s t events none (ap (λ (u : State). u.heap) after)
 piece_after given s t events none (GuardPiece name object after) = same_after s t events none (ap (λ (u : State). u.heap) after)
 piece_after given s t events none (Swept pages freed sweeps) =
     worked s t events (subst (λ events. Leaves s events t) (sym none) (leaves_swept pages s t freed sweeps))
+piece_after given s t events none (Scans scans few after) = same_after s t events none (ap (λ (u : State). u.heap) after)
 
 -- what is present was allocated
 present_old : (s : State) → Sound s → (n : ℕ) → is_present s n ≡ true → n ≤ length s.graph
@@ -151,6 +153,10 @@ effects_after s t (New root fields guard style) events answer e =
     record { after = new_after s t root fields guard style events e.reply e.is; reply = e.reply; answer_is = e.answer_is }
 effects_after s t Minor events answer e = record { after = collects_after s t MinorKind events e.reply e.is; reply = e.reply; answer_is = e.answer_is }
 effects_after s t Gc events answer e = record { after = collects_after s t FullKind events e.reply e.is; reply = e.reply; answer_is = e.answer_is }
+effects_after s t Major events answer e =
+    record { after = worked s t events (major_leaves s t events e.reply e.is); reply = e.reply; answer_is = e.answer_is }
+effects_after s t Finish events answer e =
+    record { after = worked s t events (finish_leaves s t events e.reply e.is); reply = e.reply; answer_is = e.answer_is }
 effects_after s t command events answer e =
     record { after = replies_after s t command events e.1.reply e.0 e.1.is; reply = e.1.reply; answer_is = e.1.answer_is }
 

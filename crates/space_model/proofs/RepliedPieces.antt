@@ -1,13 +1,13 @@
 -- What a command without events does to a state: nothing, or one piece of work.
-use Rattle.std.proofs.Common.{◌≡◌, ℕ, Bool, true, false, if◌then◌else◌, List, [], ◌∷◌, ◌++◌, length, min, refl, ⊎_elim, Option, None, Some, Result, Ok, Err}
+use Rattle.std.proofs.Common.{◌≡◌, ℕ, ◌+◌, ◌≤◌, ap, arith, Bool, true, false, if◌then◌else◌, List, [], ◌∷◌, ◌++◌, length, min, refl, ⊎_elim, Option, None, Some, Result, Ok, Err}
 use Rattle.space_model.specs.declared.command.Command.{Command}
-use Rattle.space_model.specs.declared.command.Command.TheVariants.{New, Set, DropRoot, Push, Raw, Pop, Store, RawStore, Load, Same, Unprotect, Minor, Gc, Sweep, Stat}
+use Rattle.space_model.specs.declared.command.Command.TheVariants.{New, Set, DropRoot, Push, Raw, Pop, Store, RawStore, Load, Same, Unprotect, Minor, Gc, Major, Mark, Finish, Sweep, Stat}
 use Rattle.space_model.specs.declared.command.Input.{Input}
 use Rattle.space_model.specs.declared.command.Operand.{Operand}
 use Rattle.space_model.specs.declared.reply.Refusal.{Refusal}
 use Rattle.space_model.specs.declared.reply.Refusal.TheVariants.{Protected}
 use Rattle.space_model.specs.declared.reply.Reply.{Reply}
-use Rattle.space_model.specs.declared.reply.Reply.TheVariants.{Done, Read, SweepCount, StatLine}
+use Rattle.space_model.specs.declared.reply.Reply.TheVariants.{Done, Read, Marked, SweepCount, StatLine, Refused}
 use Rattle.space_model.specs.declared.value.Value.{Value}
 use Rattle.space_model.specs.declared.value.Value.TheVariants.{Name}
 use Rattle.space_model.specs.Ages.{is_protected}
@@ -15,6 +15,7 @@ use Rattle.space_model.specs.CommandTexts.{IsWritableInput}
 use Rattle.space_model.specs.Given.{IsGiven}
 use Rattle.space_model.specs.Idents.{IsIdent}
 use Rattle.space_model.specs.Lawful.{Replies}
+use Rattle.space_model.specs.MajorMarking.{scans_told, AnswersMark}
 use Rattle.space_model.specs.ObjectCommands.{written_field, StoreReply, unguarded, UnprotectReply}
 use Rattle.space_model.specs.Operands.{operand_value, input_value, object_in}
 use Rattle.space_model.specs.Pieces.{RootWritten, RootDropped, StackReplaced, FieldWritten, MadeUnprotected}
@@ -27,13 +28,14 @@ use Rattle.space_model.specs.Stat.{AnswersStat}
 use Rattle.space_model.specs.State.{State}
 use Rattle.space_model.specs.Sweeps.{Sweeps, AnswersSweep}
 use Rattle.space_model.proofs.ValuesHold.{input_holds, read_holds, write_holds, named_holds}
-use Rattle.space_model.proofs.ValuesKept.{IsPresentValue, present_kept, small_kept}
+use Rattle.space_model.proofs.ValuesKept.{IsPresentValue, IsReachedValue, present_kept, reached_kept, small_kept}
 
 -- in a sound state the value is present, and small, where what is given is
 abbrev pub IsValid : Type 0 → State → Value → Type 0
 IsValid given s value = given → Sound s → IsPresentValue s.heap.place value × IsSmall value
 
--- nothing was changed; or a root was written or taken away, the stack replaced, a field written, a name made unprotected, or pages swept
+-- nothing was changed; or a root was written or taken away, the stack replaced, a field written, a name made unprotected, pages swept, or
+-- scans told
 pub data IsPiece (given : Type 0) (s t : State) : Type 0 where
   Nothing : (same : t ≡ s) → IsPiece given s t
   Root : (root : List ℕ) → (value : Value) → (ident : given → IsIdent root) → (valid : IsValid given s value) →
@@ -41,9 +43,10 @@ pub data IsPiece (given : Type 0) (s t : State) : Type 0 where
   Dropped : (root : List ℕ) → (after : RootDropped s root t) → IsPiece given s t
   Stack : (words : List ℕ) → (after : StackReplaced s words t) → IsPiece given s t
   Field : (name index : ℕ) → (value : Value) → (object : IsValid given s (Name name)) → (valid : IsValid given s value) →
-      (after : FieldWritten s name index value t) → IsPiece given s t
+      (reached : given → IsReachedValue s value) → (after : FieldWritten s name index value t) → IsPiece given s t
   Guard : (name : ℕ) → (object : IsValid given s (Name name)) → (after : MadeUnprotected s name t) → IsPiece given s t
   Swept : (pages : ℕ) → (freed : List ℕ) → (sweeps : Sweeps pages s freed t) → IsPiece given s t
+  Scans : (scans : ℕ) → (few : s.history.scanned + scans ≤ length s.history.seen) → (after : t ≡ scans_told s scans) → IsPiece given s t
 
 module _ (given : Type 0) (s t : State) where
   root_piece : (root : List ℕ) (value : Value) (answer reply : Reply) → (given → IsIdent root) → IsValid given s value →
@@ -96,6 +99,7 @@ module _ (given : Type 0) (s t : State) where
         (write_holds s (IsPresentValue s.heap.place) (present_kept s h) object index input written (small g) f).1,
         (write_holds s IsSmall (small_kept s h) object index input written (small g) f).1,
       ))
+      (λ g. (write_holds s (IsReachedValue s) (reached_kept s) object index input written (small g) f).1)
       e.1
   store_piece object index input (Err why) reply small f e = Nothing e.unchanged
 
@@ -119,6 +123,13 @@ module _ (given : Type 0) (s t : State) where
       (λ g h. (named_holds s (IsPresentValue s.heap.place) (present_kept s h) object name f, named_holds s IsSmall (small_kept s h) object name f))
       e.1
   unprotect_piece object (Err why) reply f e = Nothing e.unchanged
+
+  mark_piece : (count : ℕ) (reply : Reply) → AnswersMark s count reply t → IsPiece given s t
+  mark_piece count (Marked scans grey) e =
+      let told : t.history.scanned ≡ s.history.scanned + scans = ap (λ (u : State). u.history.scanned) e.after in
+      Scans scans (let within = e.within in omega arith) e.after
+  mark_piece count (Refused why) e = Nothing e.2
+  mark_piece count _ e = absurd e
 
   sweep_piece : (count : ℕ) (reply : Reply) → AnswersSweep s count reply t → IsPiece given s t
   sweep_piece count (SweepCount freed left) e = Swept (min count (length s.heap.unswept)) e.0 e.1
@@ -149,5 +160,8 @@ replied_piece s t (Unprotect object) reply e =
     unprotect_piece (IsGiven (Unprotect object)) s t object (and_then (operand_value s object) object_in) reply refl e
 replied_piece s t Minor reply e = absurd e
 replied_piece s t Gc reply e = absurd e
+replied_piece s t Major reply e = absurd e
+replied_piece s t (Mark count) reply e = mark_piece (IsGiven (Mark count)) s t count reply e
+replied_piece s t Finish reply e = absurd e
 replied_piece s t (Sweep count) reply e = sweep_piece (IsGiven (Sweep count)) s t count reply e
 replied_piece s t Stat reply e = stat_piece (IsGiven Stat) s t reply e

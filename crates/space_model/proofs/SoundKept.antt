@@ -8,7 +8,7 @@ use Rattle.std.specs.FinMap.{FinMap, get, keys, empty, get-empty}
 use Rattle.std.proofs.lemmas.Bool.{false≢true, and_parts}
 use Rattle.std.proofs.lemmas.List.{length-append}
 use Rattle.space_model.specs.declared.command.Command.{Command}
-use Rattle.space_model.specs.declared.command.Command.TheVariants.{New, Minor, Gc}
+use Rattle.space_model.specs.declared.command.Command.TheVariants.{New, Minor, Gc, Major, Finish}
 use Rattle.space_model.specs.declared.object.Guard.{Guard}
 use Rattle.space_model.specs.declared.object.Style.{Style}
 use Rattle.space_model.specs.declared.event.Event.{Event}
@@ -37,18 +37,20 @@ use Rattle.space_model.proofs.CorpsesKept.{SoundCorpses-born}
 use Rattle.space_model.proofs.KeptNames.{SoundKept-born}
 use Rattle.space_model.proofs.LayoutKept.{IsFoundAt, found_at, fresh_slot, fresh_corpse, fresh_left, SoundLayout-born}
 use Rattle.space_model.proofs.LeftKept.{SoundLeft-none, SoundStale-none, SoundLeft-born, SoundStale-born}
+use Rattle.space_model.proofs.MajorLaws.{Sound-scans_told, major_sound, finish_sound}
 use Rattle.space_model.proofs.MapLaws.{some_get}
+use Rattle.space_model.proofs.MarkingKept.{SoundMarking-born, SoundMarking-field_written, SoundMarking-unprotected}
 use Rattle.space_model.proofs.NamesKept.{written_shape, written_long, SoundNames-born, SoundNames-root_written, SoundNames-root_dropped, SoundNames-field_written, SoundStale-field_written, SoundKept-field_written}
 use Rattle.space_model.proofs.SweepKept.{SoundSweep-born, SoundUsed-born}
 use Rattle.space_model.proofs.Members.{member_filter}
 use Rattle.space_model.proofs.ReachedLaws.{member-keys}
 use Rattle.space_model.proofs.Reaching.{IsReached-least}
-use Rattle.space_model.proofs.RepliedPieces.{IsPiece, Nothing, Root, Dropped, Stack, Field, Guard as GuardPiece, Swept, replied_piece}
+use Rattle.space_model.proofs.RepliedPieces.{IsPiece, Nothing, Root, Dropped, Stack, Field, Guard as GuardPiece, Swept, Scans, replied_piece}
 use Rattle.space_model.proofs.SameShapes.{SoundLayout-shaped, SoundCorpses-shaped, SoundLeft-shaped}
 use Rattle.space_model.proofs.Stages.{passed_sound, place_sound}
 use Rattle.space_model.proofs.UnprotectedNames.{unprotected_shape, unprotected_long, SoundNames-unprotected, SoundStale-unprotected, SoundKept-unprotected, AreSoundItems-unprotected}
 use Rattle.space_model.proofs.WholeLaws.{collects_sound}
-use Rattle.space_model.proofs.ValuesKept.{IsPresentValue, name_present, AreSoundItems-push, AreSoundItems-field_written, AreSoundRoots-with_root, AreSoundRoots-without_root}
+use Rattle.space_model.proofs.ValuesKept.{IsPresentValue, IsReachedValue, name_present, AreSoundItems-push, AreSoundItems-field_written, AreSoundRoots-with_root, AreSoundRoots-without_root}
 
 abbrev none_yet : FinMap nat_cmp ℕ
 none_yet = empty
@@ -116,6 +118,7 @@ Sound-opening limit = record {
     once = tt;
     mixed = λ n m. absurd (no_parents n m);
   };
+  marking = λ e. absurd (cc);
 }
 
 pub Sound-born : (s t : State) (root : List ℕ) (fields : ℕ) (guard : Guard) (style : Style) (address : ℕ) → IsIdent root →
@@ -142,6 +145,7 @@ Sound-born s t root fields guard style address ident few found e h =
       items = AreSoundItems-push s.graph guard style fields few h.items;
       roots = AreSoundRoots-with_root s.roots root (Name (length s.graph + 1)) ident tt h.roots;
       once = h.moments.once;
+      marking = λ e. SoundMarking-born s fields guard style address h.layout.placed (h.marking e);
     })
 
 pub Sound-root_written : (s t : State) (root : List ℕ) (value : Value) → IsIdent root → IsPresentValue s.heap.place value → IsSmall value →
@@ -152,6 +156,7 @@ Sound-root_written s t root value ident present small e h = after_piece (root_wr
   items = h.items;
   roots = AreSoundRoots-with_root s.roots root value ident small h.roots;
   once = h.moments.once;
+  marking = h.marking;
 })
 
 pub Sound-root_dropped : (s t : State) (root : List ℕ) → t ≡ noted (root_dropped s root) → Sound s → Sound t
@@ -161,6 +166,7 @@ Sound-root_dropped s t root e h = after_piece (root_dropped s root) t e (record 
   items = h.items;
   roots = AreSoundRoots-without_root s.roots root h.roots;
   once = h.moments.once;
+  marking = h.marking;
 })
 
 -- any words may be on the stack
@@ -171,11 +177,12 @@ Sound-stack_replaced s t words e h = after_piece (stack_replaced s words) t e (r
   items = h.items;
   roots = h.roots;
   once = h.moments.once;
+  marking = h.marking;
 })
 
 pub Sound-field_written : (s t : State) (name index : ℕ) (value : Value) → is_some (get s.heap.place name) ≡ true → IsPresentValue s.heap.place value →
-    IsSmall value → t ≡ noted (field_written s name index value) → Sound s → Sound t
-Sound-field_written s t name index value there present small e h =
+    IsSmall value → IsReachedValue s value → t ≡ noted (field_written s name index value) → Sound s → Sound t
+Sound-field_written s t name index value there present small reached e h =
     let at = some_get (get s.heap.place name) there in
     let b = h.layout.placed.allocated name at.0 at.1 in
     let written = with_item s.graph name (item_written (item_of s.graph name) index value) in
@@ -198,6 +205,7 @@ Sound-field_written s t name index value there present small e h =
       items = AreSoundItems-field_written s.graph name index value small h.items;
       roots = h.roots;
       once = h.moments.once;
+      marking = λ m. SoundMarking-field_written s name index value h.layout.placed b.0 b.1 reached h.moments (h.marking m);
     })
 
 pub Sound-unprotected : (s t : State) (name : ℕ) → is_some (get s.heap.place name) ≡ true → t ≡ noted (unprotected s name) → Sound s → Sound t
@@ -222,6 +230,7 @@ Sound-unprotected s t name there e h =
       items = AreSoundItems-unprotected s name h.layout.placed there h.items;
       roots = h.roots;
       once = h.moments.once;
+      marking = λ m. SoundMarking-unprotected s name h.layout.placed there (h.marking m);
     })
 
 new_sound : (s t : State) (root : List ℕ) (fields : ℕ) (guard : Guard) (style : Style) (events : List Event) (reply : Reply) → IsIdent root →
@@ -243,17 +252,20 @@ piece_sound given s t i (Nothing same) h = subst Sound (sym same) h
 piece_sound given s t i (Root root value ident valid after) h = let v = valid i h in Sound-root_written s t root value (ident i) v.0 v.1 after h
 piece_sound given s t i (Dropped root after) h = Sound-root_dropped s t root after h
 piece_sound given s t i (Stack words after) h = Sound-stack_replaced s t words after h
-piece_sound given s t i (Field name index value object valid after) h =
+piece_sound given s t i (Field name index value object valid reached after) h =
     let v = valid i h in
-    Sound-field_written s t name index value (name_present s.heap.place name (object i h).0) v.0 v.1 after h
+    Sound-field_written s t name index value (name_present s.heap.place name (object i h).0) v.0 v.1 (reached i) after h
 piece_sound given s t i (GuardPiece name object after) h = Sound-unprotected s t name (name_present s.heap.place name (object i h).0) after h
 piece_sound given s t i (Swept pages freed sweeps) h = Sound-sweeps pages s t freed sweeps h
+piece_sound given s t i (Scans scans few after) h = Sound-scans_told s t scans few after h
 
 effects_sound : (s t : State) (command : Command) (events : List Event) (answer : List Output) → IsGiven command → Effects s command events answer t →
     Sound s → Sound t
 effects_sound s t (New root fields guard style) events answer i e h = new_sound s t root fields guard style events e.reply i.1.0 e.is h
 effects_sound s t Minor events answer i e h = collects_sound s t MinorKind events e.reply e.is h
 effects_sound s t Gc events answer i e h = collects_sound s t FullKind events e.reply e.is h
+effects_sound s t Major events answer i e h = major_sound s t events e.reply e.is h
+effects_sound s t Finish events answer i e h = finish_sound s t events e.reply e.is h
 effects_sound s t command events answer i e h = piece_sound (IsGiven command) s t i (replied_piece s t command e.1.reply e.1.is) h
 
 pub lawful_sound : (s t : State) (command : Command) (outputs : List Output) → IsGiven command → Lawful s command outputs t → Sound s → Sound t

@@ -39,7 +39,7 @@ module _ (s : State) (name : ℕ) (l : AreSlots s.graph s.heap.pages s.heap.plac
   pub unprotected_long : length graph' ≡ length s.graph
   unprotected_long = length-with_item s.graph name (item_unprotected (item_of s.graph name))
 
-  children_same : (m : ℕ) → 0 < m → children graph' m ≡ children s.graph m
+  pub children_same : (m : ℕ) → 0 < m → children graph' m ≡ children s.graph m
   unfolding children
   children_same m some_m = ap (flat_map names_of) (values_same m some_m)
 

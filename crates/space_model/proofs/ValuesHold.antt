@@ -1,11 +1,12 @@
 -- What holds of every value that roots and fields hold holds of the values that operands and fields have.
-use Rattle.std.proofs.Common.{◌≡◌, ℕ, ◌<◌, ◌%◌, ◌/◌, ◌^◌, ◌==◌, ◌&&◌, Bool, true, false, nat_lt, if◌then◌else◌, List, [], ◌∷◌, nat_eq, reverse, refl, sym, ap, subst, arith, Option, None, Some, Result, Ok, Err}
+use Rattle.std.proofs.Common.{◌≡◌, ℕ, zero, suc, ⊎_elim, ◌∙◌, ◌<◌, ◌%◌, ◌/◌, ◌^◌, ◌==◌, ◌&&◌, Bool, true, false, nat_lt, if◌then◌else◌, List, [], ◌∷◌, nat_eq, reverse, refl, sym, ap, subst, arith, Option, None, Some, Result, Ok, Err}
 use Rattle.std.specs.Prelude.{slice_get}
 use Rattle.std.specs.Option.{ok_or, option_map}
 use Rattle.std.specs.Set.{is_member}
 use Rattle.std.specs.FinMap.{get}
-use Rattle.std.proofs.lemmas.Bool.{or_left, eq-eqb, and_parts}
+use Rattle.std.proofs.lemmas.Bool.{or_left, or_right, or_cases, eq-eqb, and_parts, false≢true}
 use Rattle.std.proofs.lemmas.Bool.Decides.{nat_tests}
+use Rattle.std.proofs.lemmas.List.{reverse-append}
 use Rattle.space_model.specs.declared.command.Input.{Input}
 use Rattle.space_model.specs.declared.command.Input.TheVariants.{From, Nil as NilInput, Small as SmallInput}
 use Rattle.space_model.specs.declared.command.Operand.{Operand}
@@ -23,6 +24,7 @@ use Rattle.space_model.specs.Refusals.{and_then}
 use Rattle.space_model.specs.Roots.{root_value}
 use Rattle.space_model.specs.CommandTexts.{IsWritableInput}
 use Rattle.space_model.specs.State.{State}
+use Rattle.space_model.proofs.Members.{member_cases}
 use Rattle.space_model.proofs.ReachedLaws.{member-names_at}
 
 ok_same : (a b : Value) → ◌≡◌ {A = Result Value Refusal} (Ok a) (Ok b) → a ≡ b
@@ -42,38 +44,55 @@ first_member (n ∷ names) name e = or_left _ _ (eq-eqb name n (sym (let f : n �
 half_small : (word : ℕ) → (nat_lt word (2 ^ 63) && (word % 2 == 1)) ≡ true → word / 2 < 2 ^ 62
 half_small word e = let p : nat_lt word (2 ^ 63) ≡ true = (and_parts _ _ e).0 in grind (arith, nat_tests, p)
 
+word_member : (words : List ℕ) (k word : ℕ) → slice_get words k ≡ Some word → is_member nat_eq words word ≡ true
+word_member [] k word e = absurd (cc)
+word_member (w ∷ words) zero word e = or_left _ _ (eq-eqb word w (sym (let f : w ≡ word = cc in f)))
+word_member (w ∷ words) (suc k) word e = or_right (nat_eq word w) _ (word_member words k word e)
+
+member_reverse : (words : List ℕ) (word : ℕ) → is_member nat_eq (reverse words) word ≡ true → is_member nat_eq words word ≡ true
+member_reverse [] word m = m
+member_reverse (w ∷ words) word m = ⊎_elim
+    (λ before. or_right (nat_eq word w) _ (member_reverse words word before))
+    (λ last. ⊎_elim (λ same. or_left _ _ same) (λ none. absurd (false≢true none)) (or_cases _ _ last))
+    (member_cases (reverse words) (w ∷ []) word (sym (ap (λ (list : List ℕ). is_member nat_eq list word) (reverse-append (w ∷ []) words)) ∙ m))
+
+-- a word at a place from the top is on the stack
+on_stack : (stack : List ℕ) (k word : ℕ) → slice_get (reverse stack) k ≡ Some word → is_member nat_eq stack word ≡ true
+on_stack stack k word e = member_reverse stack word (word_member (reverse stack) k word e)
+
 -- a fact of values that roots, named objects and fields keep
 pub record IsKeptFact (s : State) (P : Value → Type 0) : Type 0 where
   pub nil : P Nil
   pub small : (number : ℕ) → number < 2 ^ 62 → P (Small number)
-  pub named : (word name : ℕ) → get s.heap.place name ≡ Some word → P (Name name)
+  pub named : (word name : ℕ) → is_member nat_eq s.stack word ≡ true → get s.heap.place name ≡ Some word → P (Name name)
   pub root : (root : List ℕ) (value : Value) → root_value s.roots root ≡ Some value → P value
   pub field : (name index : ℕ) (value : Value) → P (Name name) → slice_get (item_of s.graph name).values index ≡ Some value → P value
 
 module _ (s : State) (P : Value → Type 0) (h : IsKeptFact s P) where
-  word_name : (word : ℕ) (found : Option ℕ) (value : Value) → slice_get (names_at s.heap.place word) 0 ≡ found → option_map Name found ≡ Some value → P value
-  word_name word None value e v = absurd (cc)
-  word_name word (Some name) value e v =
+  word_name : (word : ℕ) (found : Option ℕ) (value : Value) → is_member nat_eq s.stack word ≡ true → slice_get (names_at s.heap.place word) 0 ≡ found → option_map Name found ≡ Some value → P value
+  word_name word None value on e v = absurd (cc)
+  word_name word (Some name) value on e v =
       let same : Name name ≡ value = cc in
-      subst P same (h.named word name ((member-names_at s.heap.place word name).0 (first_member (names_at s.heap.place word) name e)))
+      subst P same (h.named word name on ((member-names_at s.heap.place word name).0 (first_member (names_at s.heap.place word) name e)))
 
-  word_cases : (word : ℕ) (is_nil is_small : Bool) (value : Value) → (is_small ≡ true → word / 2 < 2 ^ 62) →
+  word_cases : (word : ℕ) (is_nil is_small : Bool) (value : Value) → is_member nat_eq s.stack word ≡ true → (is_small ≡ true → word / 2 < 2 ^ 62) →
       (if is_nil then Some Nil else if is_small then Some (Small (word / 2)) else option_map Name (slice_get (names_at s.heap.place word) 0)) ≡ Some value →
       P value
-  word_cases word true is_small value low e = let same : Nil ≡ value = cc in subst P same h.nil
-  word_cases word false true value low e = let same : Small (word / 2) ≡ value = cc in subst P same (h.small (word / 2) (low refl))
-  word_cases word false false value low e = word_name word (slice_get (names_at s.heap.place word) 0) value refl e
+  word_cases word true is_small value on low e = let same : Nil ≡ value = cc in subst P same h.nil
+  word_cases word false true value on low e = let same : Small (word / 2) ≡ value = cc in subst P same (h.small (word / 2) (low refl))
+  word_cases word false false value on low e = word_name word (slice_get (names_at s.heap.place word) 0) value on refl e
 
-  word_holds : (word : ℕ) (value : Value) → word_value s.heap.place word ≡ Some value → P value
-  word_holds word value e = word_cases word (word == 0) (nat_lt word (2 ^ 63) && (word % 2 == 1)) value (half_small word) e
+  word_holds : (word : ℕ) (value : Value) → is_member nat_eq s.stack word ≡ true → word_value s.heap.place word ≡ Some value → P value
+  word_holds word value on e = word_cases word (word == 0) (nat_lt word (2 ^ 63) && (word % 2 == 1)) value on (half_small word) e
 
-  word_in_holds : (found : Option ℕ) (value : Value) → word_value_in s.heap.place found ≡ Ok value → P value
-  word_in_holds None value e = absurd (ok_err value NoWord e)
-  word_in_holds (Some word) value e = word_holds word value (from_option (word_value s.heap.place word) NotObject value e)
+  word_in_holds : (found : Option ℕ) (value : Value) → ((word : ℕ) → found ≡ Some word → is_member nat_eq s.stack word ≡ true) →
+      word_value_in s.heap.place found ≡ Ok value → P value
+  word_in_holds None value on e = absurd (ok_err value NoWord e)
+  word_in_holds (Some word) value on e = word_holds word value (on word refl) (from_option (word_value s.heap.place word) NotObject value e)
 
   pub operand_holds : (operand : Operand) (value : Value) → operand_value s operand ≡ Ok value → P value
   operand_holds (RootOperand name) value e = h.root name value (from_option (root_value s.roots name) NoRoot value e)
-  operand_holds (Word k) value e = word_in_holds (slice_get (reverse s.stack) k) value e
+  operand_holds (Word k) value e = word_in_holds (slice_get (reverse s.stack) k) value (on_stack s.stack k) e
 
   pub input_holds : (input : Input) (value : Value) → IsWritableInput input → input_value s input ≡ Ok value → P value
   input_holds (From operand) value i e = operand_holds operand value e

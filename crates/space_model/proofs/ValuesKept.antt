@@ -1,5 +1,5 @@
 -- Values are present, and small where they are integers: so are those that commands read and write.
-use Rattle.std.proofs.Common.{◌≡◌, ℕ, zero, suc, ◌≤◌, lit≤, true, false, List, [], ◌∷◌, ◌++◌, nat_eq, get_or, set, length, ap, ◌∙◌, refl, sym, subst, arith, ⊎_elim, Option, None, Some}
+use Rattle.std.proofs.Common.{◌≡◌, ℕ, inl, inr, zero, suc, ◌≤◌, lit≤, true, false, List, [], ◌∷◌, ◌++◌, nat_eq, get_or, set, length, ap, ◌∙◌, refl, sym, subst, arith, ⊎_elim, Option, None, Some}
 use Rattle.std.specs.Prelude.{is_some, slice_get, replicate}
 use Rattle.std.specs.List.{flat_map}
 use Rattle.std.specs.Set.{is_member}
@@ -13,14 +13,16 @@ use Rattle.space_model.specs.declared.object.Guard.{Guard}
 use Rattle.space_model.specs.declared.object.Style.{Style}
 use Rattle.space_model.specs.declared.value.Value.{Value}
 use Rattle.space_model.specs.declared.value.Value.TheVariants.{Nil, Small, Name}
-use Rattle.space_model.specs.Graph.{Item, no_item, item_of, with_item, names_of, children}
+use Rattle.space_model.specs.Graph.{Item, no_item, item_of, with_item, names_of, children, IsChild}
 use Rattle.space_model.specs.Idents.{IsIdent}
 use Rattle.space_model.specs.Layout.{most_fields}
 use Rattle.space_model.specs.Pieces.{new_item, item_written}
+use Rattle.space_model.specs.Reach.{IsStart, Reach}
 use Rattle.space_model.specs.Roots.{Root, root_value, root_names, with_root, without_root}
 use Rattle.space_model.specs.Sound.{Sound, IsSmall, AreSmall, AreSoundItems, AreSoundRoots}
 use Rattle.space_model.specs.State.{State}
 use Rattle.space_model.proofs.Members.{member_left, member_right, member_cases}
+use Rattle.space_model.proofs.Reaching.{IsReached-start, IsReached-closed}
 use Rattle.space_model.proofs.ValuesHold.{IsKeptFact}
 
 -- every name of the value is present
@@ -29,6 +31,13 @@ IsPresentValue place value = (n : ℕ) → is_member nat_eq (names_of value) n �
 
 pub name_present : (place : FinMap nat_cmp ℕ) (name : ℕ) → IsPresentValue place (Name name) → is_some (get place name) ≡ true
 name_present place name p = p name (or_left _ _ (eq-eqb name name refl))
+
+-- a name that stands somewhere is a present value
+pub placed_present : (place : FinMap nat_cmp ℕ) (name word : ℕ) → get place name ≡ Some word → IsPresentValue place (Name name)
+placed_present place name word e n m = ⊎_elim
+    (λ same. ap (λ x. is_some (get place x)) (eqb-true n name same) ∙ ap is_some e)
+    (λ none. absurd (false≢true none))
+    (or_cases _ _ m)
 
 -- what a root holds is among the names of the roots
 pub root_value-member : (roots : List Root) (name : List ℕ) (value : Value) (n : ℕ) → root_value roots name ≡ Some value →
@@ -53,10 +62,29 @@ unfolding children
 present_kept s h = record {
   nil = λ n m. absurd (false≢true m);
   small = λ number low n m. absurd (false≢true m);
-  named = λ word name e n m. ⊎_elim (λ t. ap (λ x. is_some (get s.heap.place x)) (eqb-true n name t) ∙ ap is_some e) (λ f. absurd (false≢true f))
-      (or_cases _ _ m);
+  named = λ word name on e. placed_present s.heap.place name word e;
   root = λ root value e n m. h.names.roots_present n (root_value-member s.roots root value n e m);
   field = λ name index value p e n m. h.names.children_present name n (name_present s.heap.place name p)
+      (get_member (item_of s.graph name).values index value n e m);
+}
+
+-- every name of the value is reached
+abbrev pub IsReachedValue : State → Value → Type 0
+IsReachedValue s value = (n : ℕ) → is_member nat_eq (names_of value) n ≡ true → Reach s n
+
+-- so it is of values that roots, named objects and fields of such hold
+pub reached_kept : (s : State) → IsKeptFact s (IsReachedValue s)
+unfolding children
+reached_kept s = record {
+  nil = λ n m. absurd (false≢true m);
+  small = λ number low n m. absurd (false≢true m);
+  named = λ word name on e n m. IsReached-start (IsChild s.graph) (IsStart s) n (inr (
+    word,
+    on,
+    ⊎_elim (λ t. ap (get s.heap.place) (eqb-true n name t) ∙ e) (λ f. absurd (false≢true f)) (or_cases _ _ m),
+  ));
+  root = λ root value e n m. IsReached-start (IsChild s.graph) (IsStart s) n (inl (root_value-member s.roots root value n e m));
+  field = λ name index value p e n m. IsReached-closed (IsChild s.graph) (IsStart s) name n (p name (or_left _ _ (eq-eqb name name refl)))
       (get_member (item_of s.graph name).values index value n e m);
 }
 
@@ -88,7 +116,7 @@ pub small_kept : (s : State) → Sound s → IsKeptFact s IsSmall
 small_kept s h = record {
   nil = tt;
   small = λ number low. low;
-  named = λ word name e. tt;
+  named = λ word name on e. tt;
   root = λ root value e. root_small s.roots root value h.roots e;
   field = λ name index value p e. value_small (item_of s.graph name).values index value (item_sound s.graph name h.items).1 e;
 }

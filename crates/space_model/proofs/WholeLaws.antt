@@ -3,9 +3,10 @@ use Rattle.std.proofs.Common.{◌≡◌, not, nat_eq, ℕ, true, false, List, []
 use Rattle.std.specs.Prelude.{◌↔◌}
 use Rattle.std.specs.Set.{is_member}
 use Rattle.std.proofs.lemmas.Bool.{not-true, false≢true, false_from_ne_true}
+use Rattle.std.proofs.lemmas.List.{append-nil}
 use Rattle.space_model.specs.declared.event.Event.{Event}
 use Rattle.space_model.specs.declared.event.Kind.{Kind}
-use Rattle.space_model.specs.declared.event.Kind.TheVariants.{Full}
+use Rattle.space_model.specs.declared.event.Kind.TheVariants.{Major, Full}
 use Rattle.space_model.specs.declared.phase.Phase.{Phase}
 use Rattle.space_model.specs.declared.phase.Phase.TheVariants.{Idle, Marking, Sweeping, Moving, Fixing}
 use Rattle.space_model.specs.declared.reply.Reply.{Reply}
@@ -13,7 +14,7 @@ use Rattle.space_model.specs.declared.reply.Reply.TheVariants.{Scanned}
 use Rattle.space_model.specs.Collections.{AreScans, IsCollection, Collects}
 use Rattle.space_model.specs.Completions.{CompletesIn, Completes}
 use Rattle.space_model.specs.Counts.{CountIs}
-use Rattle.space_model.specs.Markings.{mark_started, StartMark, took}
+use Rattle.space_model.specs.Markings.{mark_started, StartMark, took, Took}
 use Rattle.space_model.specs.Moments.{noted}
 use Rattle.space_model.specs.Reach.{Reach}
 use Rattle.space_model.specs.Reached.{reached_names}
@@ -30,24 +31,30 @@ use Rattle.space_model.proofs.VerdictLaws.{reach_present, verdict_marked, scans_
 
 -- a completion
 
-completion_sound : (phase : Phase) (s t : State) (events : List Event) → CompletesIn phase s events t → Sound s → Sound t
-completion_sound Idle s t events c h = subst Sound (sym c.1) h
-completion_sound Marking s t events c h = absurd c
-completion_sound Sweeping s t events c h = Sound-swept_all s t c.0 c.2 h
-completion_sound Moving s t events c h = absurd c
-completion_sound Fixing s t events c h = absurd c
+completion_sound : (phase : Phase) (s t : State) (events : List Event) → s.collector.phase ≡ phase → CompletesIn phase s events t → Sound s → Sound t
+completion_sound Idle s t events e c h = subst Sound (sym c.1) h
+completion_sound Marking s t events e c h =
+    let judged = Sound-took s c.judged Major c.taken (λ moves. cc) (λ fixes. cc) c.verdict.verdict c.verdict.takes h in
+    Sound-swept_all c.judged t c.freed c.sweeps judged
+completion_sound Sweeping s t events e c h = Sound-swept_all s t c.0 c.2 h
+completion_sound Moving s t events e c h = absurd c
+completion_sound Fixing s t events e c h = absurd c
 
 pub Sound-completed : (s t : State) (events : List Event) → Completes s events t → Sound s → Sound t
-Sound-completed s t events c h = completion_sound s.collector.phase s t events c h
+Sound-completed s t events c h = completion_sound s.collector.phase s t events refl c h
 
 sweeps : (unswept : List ℕ) → (unswept ≡ [] → ⊥) → sweep_phase unswept ≡ Sweeping
 sweeps [] h = absurd (h refl)
 sweeps (page ∷ others) h = refl
 
+-- after a verdict the phase is that of the pages that wait
+taken_phase : (s t : State) (kind : Kind) (taken : List ℕ) → Took s kind taken t → t.collector.phase ≡ sweep_phase t.heap.unswept
+taken_phase s t kind taken e = subst (λ (u : State). u.collector.phase ≡ sweep_phase u.heap.unswept) (sym e) refl
+
 completion_idle : (phase : Phase) (s t : State) (events : List Event) → s.collector.phase ≡ phase → CompletesIn phase s events t → Sound s →
     t.collector.phase ≡ Idle
 completion_idle Idle s t events e c h = ap (λ (u : State). u.collector.phase) c.1 ∙ e
-completion_idle Marking s t events e c h = absurd c
+completion_idle Marking s t events e c h = (SweepAll-swept c.judged t c.freed c.sweeps).phase (taken_phase s c.judged Major c.taken c.verdict.takes)
 completion_idle Sweeping s t events e c h = (SweepAll-swept s t c.0 c.2).phase (e ∙ sym (sweeps s.heap.unswept (h.sweep.some e)))
 completion_idle Moving s t events e c h = absurd c
 completion_idle Fixing s t events e c h = absurd c
@@ -58,7 +65,9 @@ completed_idle s t events c h = completion_idle s.collector.phase s t events ref
 
 completion_leaves : (phase : Phase) (s t : State) (events : List Event) → CompletesIn phase s events t → Leaves s events t
 completion_leaves Idle s t events c = subst (λ events. Leaves s events t) (sym c.0) (leaves_same s t c.1)
-completion_leaves Marking s t events c = absurd c
+completion_leaves Marking s t events c =
+    subst (λ told. Leaves s told t) (append-nil events)
+    (leaves_then s c.judged t events [] (leaves_taken s Major c.taken events c.judged c.verdict) (leaves_swept _ c.judged t c.freed c.sweeps))
 completion_leaves Sweeping s t events c = subst (λ events. Leaves s events t) (sym c.1) (leaves_swept _ s t c.0 c.2)
 completion_leaves Moving s t events c = absurd c
 completion_leaves Fixing s t events c = absurd c
@@ -127,8 +136,7 @@ completed_present s t events c h n r = reach_present t (Sound-completed s t even
 -- after a collection the phase is that of the pages that wait
 pub collection_phase : (s t : State) (kind : Kind) (events : List Event) (scans : ℕ) → IsCollection s kind events scans t →
     t.collector.phase ≡ sweep_phase t.heap.unswept
-collection_phase s t kind events scans c =
-    subst (λ (u : State). u.collector.phase ≡ sweep_phase u.heap.unswept) (sym c.verdict.takes) refl
+collection_phase s t kind events scans c = taken_phase c.marked t kind c.taken c.verdict.takes
 
 -- the state after a collection, from one in which nothing is under way, by its kind and the names that are taken
 abbrev pub collected_state : State → Kind → List ℕ → State

@@ -4,7 +4,7 @@ use Rattle.std.specs.Option.{option_to_list}
 use Rattle.std.specs.List.{slice_split, All}
 use Rattle.std.specs.Str.Parse.{AllDigits, digits_value}
 use Rattle.space_model.specs.declared.command.Command.{Command}
-use Rattle.space_model.specs.declared.command.Command.TheVariants.{New, Set, DropRoot, Push, Raw, Pop, Store, RawStore, Load, Same, Unprotect, Minor, Gc, Sweep, Stat}
+use Rattle.space_model.specs.declared.command.Command.TheVariants.{New, Set, DropRoot, Push, Raw, Pop, Store, RawStore, Load, Same, Unprotect, Minor, Gc, Major, Mark, Finish, Sweep, Stat}
 use Rattle.space_model.specs.declared.command.Input.{Input}
 use Rattle.space_model.specs.declared.command.Input.TheVariants.{From, Nil, Small}
 use Rattle.space_model.specs.declared.command.Operand.{Operand}
@@ -94,6 +94,9 @@ form_of (Same left right) = Exactly (codes "same") ∷ OperandWord left ∷ Oper
 form_of (Unprotect object) = Exactly (codes "unprotect") ∷ OperandWord object ∷ []
 form_of Minor = Exactly (codes "minor") ∷ []
 form_of Gc = Exactly (codes "gc") ∷ []
+form_of Major = Exactly (codes "major") ∷ []
+form_of (Mark count) = Exactly (codes "mark") ∷ Decimal count ∷ []
+form_of Finish = Exactly (codes "finish") ∷ []
 form_of (Sweep count) = Exactly (codes "sweep") ∷ Decimal count ∷ []
 form_of Stat = Exactly (codes "stat") ∷ []
 

@@ -1,13 +1,14 @@
 -- Which outputs a command may have, and the state after it: one row a command.
 use Rattle.std.specs.Prelude.{◌≡◌, List, [], ◌∷◌, ◌++◌, map}
 use Rattle.space_model.specs.declared.command.Command.{Command}
-use Rattle.space_model.specs.declared.command.Command.TheVariants.{New, Set, DropRoot, Push, Raw, Pop, Store, RawStore, Load, Same, Unprotect, Minor, Gc, Sweep, Stat}
+use Rattle.space_model.specs.declared.command.Command.TheVariants.{New, Set, DropRoot, Push, Raw, Pop, Store, RawStore, Load, Same, Unprotect, Minor, Gc, Major, Mark, Finish, Sweep, Stat}
 use Rattle.space_model.specs.declared.event.Event.{Event}
 use Rattle.space_model.specs.declared.event.Kind.TheVariants.{Minor as MinorKind, Full}
 use Rattle.space_model.specs.declared.reply.Reply.{Reply}
 use Rattle.space_model.specs.RootCommands.{Sets, DropsRoot, Loads}
 use Rattle.space_model.specs.ObjectCommands.{Stores, RawStores, Unprotects, Compares}
 use Rattle.space_model.specs.Collections.{Collects}
+use Rattle.space_model.specs.MajorMarking.{AnswersMajor, AnswersMark, AnswersFinish}
 use Rattle.space_model.specs.NewCommand.{AnswersNew}
 use Rattle.space_model.specs.Outputs.{Output, Told, Replied}
 use Rattle.space_model.specs.StackCommands.{Pushes, PushesWord, Pops}
@@ -27,6 +28,7 @@ Replies s (RawStore object index value) reply t = RawStores s object index value
 Replies s (Load root object index) reply t = Loads s root object index reply t
 Replies s (Same left right) reply t = Compares s left right reply t
 Replies s (Unprotect object) reply t = Unprotects s object reply t
+Replies s (Mark count) reply t = AnswersMark s count reply t
 Replies s (Sweep count) reply t = AnswersSweep s count reply t
 Replies s Stat reply t = AnswersStat s reply t
 Replies s _ reply t = ⊥
@@ -42,6 +44,8 @@ abbrev pub Effects : State → Command → List Event → List Output → State 
 Effects s (New root fields guard style) events answer t = IsOneReply (λ reply. AnswersNew s root fields guard style events reply t) answer
 Effects s Minor events answer t = IsOneReply (λ reply. Collects s MinorKind events reply t) answer
 Effects s Gc events answer t = IsOneReply (λ reply. Collects s Full events reply t) answer
+Effects s Major events answer t = IsOneReply (λ reply. AnswersMajor s events reply t) answer
+Effects s Finish events answer t = IsOneReply (λ reply. AnswersFinish s events reply t) answer
 Effects s command events answer t = (events ≡ []) × IsOneReply (λ reply. Replies s command reply t) answer
 
 -- the outputs are lawful for the command in the state s: its events and then its answer, and t is the state after them

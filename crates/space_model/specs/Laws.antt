@@ -13,7 +13,7 @@ use Rattle.space_model.specs.declared.object.Guard.{Guard}
 use Rattle.space_model.specs.declared.object.Style.{Style}
 use Rattle.space_model.specs.declared.phase.Phase.TheVariants.{Moving, Fixing}
 use Rattle.space_model.specs.declared.reply.Reply.{Reply}
-use Rattle.space_model.specs.declared.reply.Reply.TheVariants.{Made, Pushed, Scanned, SweepCount, StatLine, Full as FullReply}
+use Rattle.space_model.specs.declared.reply.Reply.TheVariants.{Made, Done, Pushed, Scanned, SweepCount, StatLine, Full as FullReply}
 use Rattle.space_model.specs.declared.stat.Stat.{Stat}
 use Rattle.space_model.specs.declared.value.Value.{Value}
 use Rattle.space_model.specs.Collections.{IsCollection, Collects}
@@ -27,6 +27,7 @@ use Rattle.space_model.specs.Graph.{IsChild}
 use Rattle.space_model.specs.Idents.{IsIdent}
 use Rattle.space_model.specs.Lawful.{Lawful, LawfulAll}
 use Rattle.space_model.specs.Layout.{pool_for}
+use Rattle.space_model.specs.MajorMarking.{AnswersMajor, AnswersMark, AnswersFinish}
 use Rattle.space_model.specs.Markings.{StartMark, Took}
 use Rattle.space_model.specs.Moments.{noted, SameMoments}
 use Rattle.space_model.specs.NewCommand.{AnswersNew}
@@ -204,6 +205,26 @@ abbrev pub MinorIsThere : Type 0
 MinorIsThere =
     (s idle : State) (completion : List Event) → Completes s completion idle → Sound s →
     (events : List Event) × (scans : ℕ) × (t : State) × Collects s Minor events (Scanned scans) t
+
+-- in a sound state in which no objects are being moved, what is under way can be completed
+abbrev pub CompletionIsThere : Type 0
+CompletionIsThere =
+    (s : State) → s.collector.phase ≢ Moving → s.collector.phase ≢ Fixing → Sound s →
+    (events : List Event) × (idle : State) × Completes s events idle
+
+-- and it has a `major`
+abbrev pub MajorIsThere : Type 0
+MajorIsThere =
+    (s : State) → s.collector.phase ≢ Moving → s.collector.phase ≢ Fixing → Sound s →
+    (events : List Event) × (t : State) × AnswersMajor s events Done t
+
+-- a sound state has a `mark` of any count
+abbrev pub MarkIsThere : Type 0
+MarkIsThere = (s : State) (count : ℕ) → Sound s → (reply : Reply) × (t : State) × AnswersMark s count reply t
+
+-- and it has a `finish`
+abbrev pub FinishIsThere : Type 0
+FinishIsThere = (s : State) → Sound s → (events : List Event) × (reply : Reply) × (t : State) × AnswersFinish s events reply t
 
 -- where `new` answers `full` in a sound state, the heap is really full for the pool of the object
 abbrev pub FullIsFullAt : Type 0

@@ -22,6 +22,7 @@ pub mod Sweeps
 pub mod Markings
 pub mod Completions
 pub mod Collections
+pub mod MajorMarking
 pub mod Refusals
 pub mod Operands
 pub mod StoredWords

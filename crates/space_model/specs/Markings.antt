@@ -8,14 +8,17 @@ use Rattle.space_model.specs.Kept.{kept_after_verdict, vague_after_verdict}
 use Rattle.space_model.specs.Maps.{without, carried_over}
 use Rattle.space_model.specs.Moments.{noted, mixed_names}
 use Rattle.space_model.specs.Pages.{pool_pages}
-use Rattle.space_model.specs.Reached.{reached_names}
+use Rattle.space_model.specs.Reached.{start_names, reached_names}
 use Rattle.space_model.specs.State.{State, Counters}
 use Rattle.space_model.specs.Sweeps.{sweep_phase}
 use Rattle.space_model.specs.Verdicts.{IsVerdict, verdict_events}
 
--- a marking starts: what is reached now, and who has a child now that isn't old, is all that was noted since
+-- a marking starts: what is reached now, and who has a child now that isn't old, is all that was noted since. It begins with what roots hold
+-- and stack words name, and no scan was told yet
 abbrev pub mark_started : State → State
-mark_started s = record s { history = record s.history { seen = reached_names s; mixed = mixed_names s } }
+mark_started s = record s {
+  history = record s.history { seen = reached_names s; mixed = mixed_names s; began = start_names s.roots s.stack s.heap.place; scanned = 0 };
+}
 
 -- the state after the start of a marking
 abbrev pub StartMark : State → State → Type 0

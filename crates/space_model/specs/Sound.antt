@@ -6,7 +6,7 @@ use Rattle.std.specs.Ordering.{nat_cmp}
 use Rattle.std.specs.Set.{is_member}
 use Rattle.std.specs.FinMap.{FinMap, get, empty}
 use Rattle.space_model.specs.declared.phase.Phase.{Phase}
-use Rattle.space_model.specs.declared.phase.Phase.TheVariants.{Sweeping, Moving, Fixing}
+use Rattle.space_model.specs.declared.phase.Phase.TheVariants.{Marking, Sweeping, Moving, Fixing}
 use Rattle.space_model.specs.declared.value.Value.{Value}
 use Rattle.space_model.specs.declared.value.Value.TheVariants.{Nil, Small, Name}
 use Rattle.space_model.specs.Ages.{is_protected}
@@ -91,6 +91,15 @@ abbrev pub SoundKept : List Item → FinMap nat_cmp ℕ → List ℕ → Type 0
 SoundKept graph place kept =
     (name : ℕ) → is_member nat_eq kept name ≡ true → (is_some (get place name) ≡ true) × (is_protected graph name ≡ false)
 
+-- while a marking goes on: it began with names that were seen; what was seen is present, and so are its children, which were seen; other names
+-- may be kept than those that are for certain; and no more scans were told than names were seen
+pub record SoundMarking (graph : List Item) (place : FinMap nat_cmp ℕ) (seen began : List ℕ) (scanned vague : ℕ) : Type 0 where
+  pub began_seen : (name : ℕ) → is_member nat_eq began name ≡ true → is_member nat_eq seen name ≡ true
+  pub seen_present : (name : ℕ) → is_member nat_eq seen name ≡ true → is_some (get place name) ≡ true
+  pub seen_closed : (parent name : ℕ) → is_member nat_eq seen parent ≡ true → IsChild graph parent name → is_member nat_eq seen name ≡ true
+  pub open_kept : vague ≡ 1
+  pub few_scans : scanned ≤ length seen
+
 -- the reached names are in `seen`, each once, and the names with a child that isn't old are in `mixed`
 pub record SoundMoments (s : State) : Type 0 where
   pub seen : (name : ℕ) → Reach s name → is_member nat_eq s.history.seen name ≡ true
@@ -134,3 +143,5 @@ pub record Sound (s : State) : Type 0 where
   pub roots : AreSoundRoots s.roots
   pub outlived : length s.collector.outlived ≡ length s.graph
   pub moments : SoundMoments s
+  pub marking : s.collector.phase ≡ Marking →
+      SoundMarking s.graph s.heap.place s.history.seen s.history.began s.history.scanned s.collector.vague

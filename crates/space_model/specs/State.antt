@@ -58,7 +58,7 @@ pub record History : Type 0 where
   pub mixed : List ℕ
   -- the names that roots held or stack words named when the marking began
   pub began : List ℕ
-  -- the scans since
+  -- the scans that were told since
   pub scanned : ℕ
 
 -- how many minor verdicts, major and full verdicts, freed objects, compactions and moves there were

@@ -24,11 +24,11 @@ pub record TakesYoung (s : State) (taken : List ℕ) : Type 0 where
   pub old_stay : (name : ℕ) → is_old s name ≡ true → is_member nat_eq taken name ≡ false
   pub led_to : (name : ℕ) → is_present s name ≡ true → is_member nat_eq taken name ≡ false → IsReached (IsChild s.graph) (IsMinorStart s) name
 
--- what each kind asks besides: a full verdict takes every present name that isn't reached. Until their commands come, major verdicts ask
--- for nothing more
+-- what each kind asks besides: a major verdict leaves only names that were reached at some moment since its marking began; a full one takes
+-- every present name that isn't reached
 abbrev pub TakesBy : Kind → State → List ℕ → Type 0
 TakesBy Minor s taken = TakesYoung s taken
-TakesBy Major s taken = Unit {0}
+TakesBy Major s taken = (name : ℕ) → is_present s name ≡ true → is_member nat_eq taken name ≡ false → is_member nat_eq s.history.seen name ≡ true
 TakesBy Full s taken = (name : ℕ) → is_present s name ≡ true → (Reach s name → ⊥) → is_member nat_eq taken name ≡ true
 
 -- the names that a verdict takes are present, in ascending order of place and each once; none of them is reached, and no present

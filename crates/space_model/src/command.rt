@@ -81,6 +81,14 @@ pub enum Command {
     Minor,
     /// A whole collection: what no root and no stack word leads to goes (`GC.start` of CRuby 3.3).
     Gc,
+    /// A major marking begins, after what was under way was completed. It goes on over later commands (the incremental marking of CRuby 3.3).
+    Major,
+    /// The major marking that is under way makes so many scans, or all that are left where fewer are.
+    Mark {
+        count: u64,
+    },
+    /// The major marking that is under way ends, and its verdict is given.
+    Finish,
     /// Sweeps so many pages that wait, or all where fewer do.
     Sweep {
         count: u64,

@@ -6,6 +6,7 @@ ghost use Rattle.space_model.specs.Laws.{StatIsThere, CountsAreOne};
 ghost use Rattle.space_model.specs.Laws.{SeenAreReached, VerdictsReachNoMore, ReachedOutliveVerdicts, FullLeavesReached};
 ghost use Rattle.space_model.specs.Laws.{SweepsKeepPlaces, SweepsKeepReach, CompletesReachNoMore, ReachedOutliveCompletions};
 ghost use Rattle.space_model.specs.Laws.{CollectionScansReached, FullCollectionLeavesReached, CollectionsKeepGraph, GcIsThere, MinorIsThere};
+ghost use Rattle.space_model.specs.Laws.{CompletionIsThere, MajorIsThere, MarkIsThere, FinishIsThere};
 ghost use Rattle.space_model.specs.Laws.{FullIsFullAt, FullLeavesReachedBefore, NewMakesNone};
 ghost use Rattle.space_model.specs.Laws.{ReachedArePresent, VisibleIsReached, ReachedIsVisible, ReachedStay, PlacesStay, LimitStays, WordsKeepValues};
 ghost use Rattle.space_model.specs.Laws.{GoneAreTold, GoneAreToldInOrder, GoneAreToldOnce, GoneStayGone, PushedIsTop, NamedIsTold, TextsDiffer};
@@ -72,6 +73,15 @@ pub fn collections_leave_what_is_reached()
     ensures same { CollectionsKeepGraph }
     ensures possible { GcIsThere }
     ensures minor_possible { MinorIsThere }
+{}
+
+/// Where no objects are being moved, what is under way can be completed, and a major marking can begin. `mark` and `finish` can always be
+/// answered: where a major marking is under way, and where none is.
+pub fn markings_are_there()
+    ensures completed { CompletionIsThere }
+    ensures major { MajorIsThere }
+    ensures mark { MarkIsThere }
+    ensures finish { FinishIsThere }
 {}
 
 /// `new` answers `full` only where the heap is really full for the object's pool. Where it makes no object, whatever it answers, it

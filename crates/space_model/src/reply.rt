@@ -16,6 +16,8 @@ pub enum Refusal {
     NoField,
     /// The write barrier protects the object.
     Protected,
+    /// No major marking is under way.
+    NotMarking,
 }
 
 /// The last line of a command.
@@ -36,8 +38,10 @@ pub enum Reply {
     Read { value: Value },
     /// The answer to a question.
     Truth { yes: bool },
-    /// A marking was done with so many scans: each reads the fields of one object.
+    /// A marking was done, or ended, with so many scans: each reads the fields of one object.
     Scanned { count: u64 },
+    /// A major marking made so many scans more, and so many objects that it has marked wait for theirs.
+    Marked { scanned: u64, grey: u64 },
     /// So many slots of gone objects were made free, and so many pages with a pool still wait for a sweep.
     SweepCount { freed: u64, left: u32 },
     /// The counts of the space.

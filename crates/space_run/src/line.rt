@@ -54,7 +54,7 @@ pub fn answer_line<S: Source, K: Sink>(
 ) -> Option<End>
     requires able { space.old.is_spent ≡ false }
     requires turns { space.old.turns < 2 ^ 34 }
-    requires steps { steps.old < 2 ^ 62 }
+    requires steps { steps.old < 2 ^ 61 }
 
     // Whatever came before, the replay goes on by one line, or it ends so.
     ensures line { (limit : ℕ) (rest written : Option (List ℕ)) (ends : ℕ) →
@@ -71,7 +71,7 @@ pub fn answer_line<S: Source, K: Sink>(
     ensures number { IsTrue (is_none result) → (lines.new.number ≡ lines.old.number + 1) × (lines.new.number ≤ 2 ^ 32) }
     ensures able { IsTrue (is_none result) → space.new.is_spent ≡ false }
     ensures turns { IsTrue (is_none result) → space.new.turns ≤ space.old.turns + 1 }
-    ensures steps { IsTrue (is_none result) → steps.new ≤ steps.old + 2 ^ 27 }
+    ensures steps { IsTrue (is_none result) → steps.new ≤ steps.old + 2 ^ 28 }
 {
     let given = lines.number();
     if flush_before_read(lines, sink).is_err() {

@@ -6,7 +6,7 @@ use Rattle.std.specs.List.{slice_index, onto_first}
 use Rattle.std.specs.Str.{bytes_eq}
 use Rattle.std.specs.Str.Parse.{digits_value}
 use Rattle.space_model.specs.declared.command.Command.{Command}
-use Rattle.space_model.specs.declared.command.Command.TheVariants.{New, Set, DropRoot, Push, Raw, Pop, Store, RawStore, Load, Same, Unprotect, Minor, Gc, Sweep, Stat}
+use Rattle.space_model.specs.declared.command.Command.TheVariants.{New, Set, DropRoot, Push, Raw, Pop, Store, RawStore, Load, Same, Unprotect, Minor, Gc, Major, Mark, Finish, Sweep, Stat}
 use Rattle.space_model.specs.declared.command.Input.{Input}
 use Rattle.space_model.specs.declared.command.Input.TheVariants.{From, Nil, Small}
 use Rattle.space_model.specs.declared.command.Operand.{Operand}
@@ -76,6 +76,10 @@ abbrev unprotect_of : List (List ℕ) → Option Command
 unprotect_of (object ∷ rest) = Some (Unprotect (operand_of object))
 unprotect_of _ = None
 
+abbrev mark_of : List (List ℕ) → Option Command
+mark_of (count ∷ rest) = Some (Mark (digits_value 10 count))
+mark_of _ = None
+
 abbrev sweep_of : List (List ℕ) → Option Command
 sweep_of (count ∷ rest) = Some (Sweep (digits_value 10 count))
 sweep_of _ = None
@@ -95,6 +99,9 @@ form_of name words =
     else if bytes_eq name (codes "unprotect") then unprotect_of words
     else if bytes_eq name (codes "minor") then Some Minor
     else if bytes_eq name (codes "gc") then Some Gc
+    else if bytes_eq name (codes "major") then Some Major
+    else if bytes_eq name (codes "mark") then mark_of words
+    else if bytes_eq name (codes "finish") then Some Finish
     else if bytes_eq name (codes "sweep") then sweep_of words
     else if bytes_eq name (codes "stat") then Some Stat
     else None
@@ -159,6 +166,9 @@ command_is words (Same left right) (_, _, e, f, (a, _, e1, f1, (b, _, e2, f2, _)
 command_is words (Unprotect object) (_, _, e, f, (a, _, e1, f1, _)) = rw (e, f, e1, operand_is a object f1) refl
 command_is words Minor (_, _, e, f, _) = rw (e, f) refl
 command_is words Gc (_, _, e, f, _) = rw (e, f) refl
+command_is words Major (_, _, e, f, _) = rw (e, f) refl
+command_is words (Mark count) (_, _, e, f, (_, _, e1, f1, _)) = rw (e, f, e1, f1.value) refl
+command_is words Finish (_, _, e, f, _) = rw (e, f) refl
 command_is words (Sweep count) (_, _, e, f, (_, _, e1, f1, _)) = rw (e, f, e1, f1.value) refl
 command_is words Stat (_, _, e, f, _) = rw (e, f) refl
 

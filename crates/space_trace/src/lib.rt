@@ -6,6 +6,7 @@ mod collection_commands;
 mod laws;
 mod line_buffer;
 mod line_end;
+mod marking_commands;
 mod new_command;
 mod object_commands;
 mod operands;

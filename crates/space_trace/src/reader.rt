@@ -5,6 +5,7 @@ ghost use Rattle.space_model.specs.Grammar.{without_cr, IsBlank, IsReading};
 ghost use Rattle.space_trace.specs.WordsLeft.{words_in, ReadsWords};
 
 use crate::collection_commands::{read_gc, read_minor, read_stat, read_sweep};
+use crate::marking_commands::{read_finish, read_major, read_mark};
 use crate::new_command::read_new;
 use crate::object_commands::{read_raw_store, read_same, read_store, read_unprotect};
 use crate::root_commands::{read_drop, read_load, read_set};
@@ -58,6 +59,9 @@ fn command_of_words(name: &[u8], rest: Option<&[u8]>) -> Option<Command>
         _ if name == b"unprotect".as_slice() => read_unprotect(rest),
         _ if name == b"minor".as_slice() => read_minor(rest),
         _ if name == b"gc".as_slice() => read_gc(rest),
+        _ if name == b"major".as_slice() => read_major(rest),
+        _ if name == b"mark".as_slice() => read_mark(rest),
+        _ if name == b"finish".as_slice() => read_finish(rest),
         _ if name == b"sweep".as_slice() => read_sweep(rest),
         _ if name == b"stat".as_slice() => read_stat(rest),
         _ => None,

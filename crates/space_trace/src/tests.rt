@@ -6,7 +6,7 @@ use std::alloc::{AllocError as NoMemory, Global};
 use std::test::Fail;
 
 // The line, and how its command is spelled.
-const FORMS: [(&[u8], &[u8]); 36] = [
+const FORMS: [(&[u8], &[u8]); 41] = [
     (b"new a 3 P M", b"new a 3 P M\n"),
     (b"new a 79 P M", b"new a 79 P M\n"),
     (
@@ -54,6 +54,11 @@ const FORMS: [(&[u8], &[u8]); 36] = [
     (b"unprotect @0", b"unprotect @0\n"),
     (b"minor", b"minor\n"),
     (b"gc", b"gc\n"),
+    (b"major", b"major\n"),
+    (b"mark 0", b"mark 0\n"),
+    (b"mark 00010\r", b"mark 10\n"),
+    (b"mark 18446744073709551615", b"mark 18446744073709551615\n"),
+    (b"finish", b"finish\n"),
     (b"sweep 0", b"sweep 0\n"),
     (b"sweep 007", b"sweep 7\n"),
     (
@@ -66,7 +71,7 @@ const FORMS: [(&[u8], &[u8]); 36] = [
 // Lines without a command.
 const BLANK: [&[u8]; 5] = [b"", b"\r", b";", b"; a comment", b";same a b\r"];
 
-const MALFORMED: [&[u8]; 58] = [
+const MALFORMED: [&[u8]; 64] = [
     b" ",
     b" ; a comment",
     b"\r\r",
@@ -119,6 +124,12 @@ const MALFORMED: [&[u8]; 58] = [
     b"minor a",
     b"gc ",
     b"gc a",
+    b"major 1",
+    b"mark",
+    b"mark -1",
+    b"mark 1 2",
+    b"mark 18446744073709551616",
+    b"finish ",
     b"sweep",
     b"sweep a",
     b"sweep 1 2",
@@ -182,7 +193,7 @@ const MOST_COUNTS: Stat = Stat {
     total_moved_objects: u64::MAX,
 };
 
-const REPLIES: [(Reply, &[u8]); 25] = [
+const REPLIES: [(Reply, &[u8]); 28] = [
     (
         Reply::Made {
             name: 1,
@@ -243,6 +254,20 @@ const REPLIES: [(Reply, &[u8]); 25] = [
         },
         b"ok scanned 18446744073709551615\n",
     ),
+    (
+        Reply::Marked {
+            scanned: 10,
+            grey: 0,
+        },
+        b"scanned 10 grey 0\n",
+    ),
+    (
+        Reply::Marked {
+            scanned: 18446744073709551615,
+            grey: 18446744073709551615,
+        },
+        b"scanned 18446744073709551615 grey 18446744073709551615\n",
+    ),
     (Reply::SweepCount { freed: 1, left: 0 }, b"freed 1 left 0\n"),
     (
         Reply::SweepCount {
@@ -294,6 +319,12 @@ const REPLIES: [(Reply, &[u8]); 25] = [
             why: Refusal::Protected,
         },
         b"error protected\n",
+    ),
+    (
+        Reply::Refused {
+            why: Refusal::NotMarking,
+        },
+        b"error not marking\n",
     ),
 ];
 

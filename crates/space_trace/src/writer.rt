@@ -12,6 +12,7 @@ ghost use Rattle.space_trace.specs.StatReplies.{is_stat};
 use crate::collection_commands::{put_gc, put_minor, put_stat_command, put_sweep};
 use crate::line_buffer::LineBuffer;
 use crate::line_end::LineEnd;
+use crate::marking_commands::{put_finish, put_major, put_mark};
 use crate::new_command::put_new;
 use crate::object_commands::{put_raw_store, put_same, put_store, put_unprotect};
 use crate::root_commands::{put_drop, put_load, put_set};
@@ -61,6 +62,9 @@ fn put_command(line: &mut LineBuffer, command: Command)
         Command::Unprotect { object } => put_unprotect(line, object),
         Command::Minor => put_minor(line),
         Command::Gc => put_gc(line),
+        Command::Major => put_major(line),
+        Command::Mark { count } => put_mark(line, count),
+        Command::Finish => put_finish(line),
         Command::Sweep { count } => put_sweep(line, count),
         Command::Stat => put_stat_command(line),
     }
@@ -166,6 +170,7 @@ fn refusal_bytes(why: Refusal) -> &'static [u8]
         Refusal::NotObject => b"error not an object",
         Refusal::NoField => b"error no field",
         Refusal::Protected => b"error protected",
+        Refusal::NotMarking => b"error not marking",
     }
 }
 
@@ -220,6 +225,12 @@ fn put_reply(line: &mut LineEnd, reply: &Reply)
         Reply::Scanned { count } => {
             line.put_decimal(*count);
             line.put(b"ok scanned ");
+        }
+        Reply::Marked { scanned, grey } => {
+            line.put_decimal(*grey);
+            line.put(b" grey ");
+            line.put_decimal(*scanned);
+            line.put(b"scanned ");
         }
         Reply::SweepCount { freed, left } => {
             line.put_decimal(u64::from(*left));

@@ -6,7 +6,7 @@ ghost use Rattle.space_model.specs.declared.command.Command.TheVariants.{New};
 ghost use Rattle.space_model.specs.Layout.{pool_for as pool_of_fields};
 ghost use Rattle.space_heap.specs.Allocations.{LacksRoom, NeedsNewPage};
 ghost use Rattle.space_roots.specs.WordRoots.{root_word};
-ghost use Rattle.space_engine.specs.Ticks.{RisesByFewer};
+ghost use Rattle.space_engine.specs.Ticks.{RisesByFewer, most_ticks};
 ghost use Rattle.space_collector.specs.Quiescent.{most_slots, IsQuiescent};
 ghost use Rattle.space_engine.specs.Allocations.{IsLastReply, IsReserved, IsReservedAndSwept, IsRootedAllocation, IsSwept};
 ghost use Rattle.space_engine.specs.Answered.{IsAnswered, IsCutOff};
@@ -128,12 +128,12 @@ impl Engine {
         requires names { self.old.heap.counters.born < 2 ^ 62 }
         requires able { CanCompleteAndCollect self.old.heap }
         requires freed { self.old.heap.counters.freed < 2 ^ 60 + most_slots }
-        requires steps { steps.old < 2 ^ 62 }
+        requires steps { steps.old < 2 ^ 61 }
         ensures done { (v : View) → IsReservedAndSwept v self.old root.now is_new (pool_of_fields fields) → IfOk result (λ answer. IsAnswered v self.new (New root.now fields guard style) answer.reply answer.gone (K.written sink.old) (K.written sink.new) steps.old steps.new) }
         ensures fault { (v : View) → IsReservedAndSwept v self.old root.now is_new (pool_of_fields fields) → OnErr result (IsCutOff v self.new (New root.now fields guard style) (K.written sink.old) (K.written sink.new)) }
         ensures cause { HasCause (K.faults sink.old) (K.faults sink.new) result }
         ensures work { IsWork 2 self.old.heap self.new.heap }
-        ensures steps { RisesByFewer steps.old steps.new }
+        ensures steps { RisesByFewer most_ticks steps.old steps.new }
     {
         let collected = self.collect_and_tell(Kind::Full, sink, steps);
 
@@ -155,12 +155,12 @@ impl Engine {
         steps: &mut Steps<L>,
     ) -> Result<Answer, WriteFault>
         requires able { CanAnswer self.old.heap }
-        requires steps { steps.old < 2 ^ 62 }
+        requires steps { steps.old < 2 ^ 61 }
         ensures done { IfOk result (λ answer. IsAnswered self.old self.new (New root.now fields guard style) answer.reply answer.gone (K.written sink.old) (K.written sink.new) steps.old steps.new) }
         ensures fault { OnErr result (IsCutOff self.old self.new (New root.now fields guard style) (K.written sink.old) (K.written sink.new)) }
         ensures cause { HasCause (K.faults sink.old) (K.faults sink.new) result }
         ensures turn { IsOneTurn self.old.heap self.new.heap }
-        ensures steps { RisesByFewer steps.old steps.new }
+        ensures steps { RisesByFewer most_ticks steps.old steps.new }
     {
         let Some(_) = pool_for(fields) else {
             let why = Refusal::TooLarge;

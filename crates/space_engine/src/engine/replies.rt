@@ -4,7 +4,7 @@ ghost use Rattle.space_model.specs.Given.{IsGiven};
 ghost use Rattle.space_model.specs.State.{State};
 ghost use Rattle.space_engine.specs.Stands.{Holds};
 ghost use Rattle.space_engine.specs.Steps.{Answers, IsQuiet};
-ghost use Rattle.space_engine.specs.Ticks.{IsReplyTicked};
+ghost use Rattle.space_engine.specs.Ticks.{RisesByFewer, IsReplyTicked, most_ticks};
 ghost use Rattle.space_engine.specs.Turns.{CanAnswer, IsOneTurn};
 
 use super::Engine;
@@ -20,6 +20,7 @@ impl Engine {
         ensures answers { (s : State) → Holds self.old s → Answers s self.new command.now result }
         ensures ticked { IsReplyTicked command.now result steps.old steps.new }
         ensures turn { IsOneTurn self.old.heap self.new.heap }
+        ensures steps { RisesByFewer most_ticks steps.old steps.new }
     {
         match command {
             Command::Set { root, value } => self.set(root, value),
@@ -44,9 +45,11 @@ impl Engine {
             } => self.load(root, object, *index, steps),
             Command::Same { left, right } => self.compare(left, right),
             Command::Unprotect { object } => self.unprotect(object),
+            Command::Mark { count } => self.mark(*count, steps),
             Command::Sweep { count } => self.sweep(*count),
             Command::Stat => self.stat(),
-            Command::New { .. } | Command::Minor | Command::Gc => unreachable!(),
+            Command::New { .. } | Command::Minor | Command::Gc | Command::Major | Command::Finish =>
+                unreachable!(),
         }
     }
 }

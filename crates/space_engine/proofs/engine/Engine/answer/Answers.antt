@@ -1,6 +1,6 @@
 use Rattle.std.proofs.Common.{rules}
 use Rattle.space_engine.specs.Steps.{IsQuiet}
-use Rattle.space_engine.proofs.Stepping.{answered_quietly, reply_rises}
+use Rattle.space_engine.proofs.Stepping.{answered_quietly}
 use Rattle.space_engine.proofs.engine.Engine.answer.Goals as goal
 
 -- a command that tells no events has one path
@@ -13,5 +13,5 @@ returns-in_default g c =
       fault = tt;
       cause = search rules;
       turn = c.reply.ensures.turn;
-      steps = reply_rises c.args.command.now c.reply.result _ _ c.reply.ensures.ticked;
+      steps = c.reply.ensures.steps;
     }

@@ -17,7 +17,7 @@ returns-in_err-gone-clause-fault g c = λ v reserved.
     first.ensures.rest second.ensures.last in
     on_err c.from_residual.result _
     (cut_off_late a.root.now a.fields a.guard a.style v a.self.now a.is_new reserved need.few need.full need.able.rests need.names
-    second.new.self first.new.self.heap second.result _ _ first.ensures.one_verdict c.in_err-gone.ensures.fault last)
+    second.new.self first.new.self.heap second.result _ _ first.ensures.judged c.in_err-gone.ensures.fault last)
 
 pub returns-in_err-gone-clause-work : goal.returns-in_err-gone-clause-work
 returns-in_err-gone-clause-work g c =
@@ -25,7 +25,7 @@ returns-in_err-gone-clause-work g c =
     let first = c.collect_and_tell-collected in
     let second = c.allocate_at_limit-reply in
     work_late a.self.now.heap first.new.self second.new.self a.root.now a.is_new a.fields a.guard a.style second.result
-    first.ensures.one_verdict second.ensures.last second.ensures.work
+    first.ensures.judged second.ensures.last second.ensures.work
 
 pub returns-clause-done : goal.returns-clause-done
 returns-clause-done g c = λ v reserved.
@@ -38,7 +38,7 @@ returns-clause-done g c = λ v reserved.
     first.ensures.rest second.ensures.last in
     answered_late a.root.now a.fields a.guard a.style v a.self.now a.is_new reserved need.few need.full need.able.rests need.names
     second.new.self first.new.self.heap told.field-0.scans told.field-0.gone second.result _ _ _ _
-    told.ensures.done told.ensures.ticked last
+    told.ensures.done last
 
 pub returns-clause-work : goal.returns-clause-work
 returns-clause-work g c =
@@ -46,4 +46,4 @@ returns-clause-work g c =
     let first = c.collect_and_tell-collected in
     let second = c.allocate_at_limit-reply in
     work_late a.self.now.heap first.new.self second.new.self a.root.now a.is_new a.fields a.guard a.style second.result
-    first.ensures.one_verdict second.ensures.last second.ensures.work
+    first.ensures.judged second.ensures.last second.ensures.work

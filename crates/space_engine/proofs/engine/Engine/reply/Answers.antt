@@ -32,6 +32,9 @@ returns-in-Load-clause-answers g c = λ s h. rw c.in-Load.is (c.load.ensures.ans
 pub returns-in-Same-clause-answers : goal.returns-in-Same-clause-answers
 returns-in-Same-clause-answers g c = λ s h. rw c.in-Same.is (compared c.args.self.now s h _ _ _ (c.compare.ensures s h))
 
+pub returns-in-Mark-clause-answers : goal.returns-in-Mark-clause-answers
+returns-in-Mark-clause-answers g c = λ s h. rw c.in-Mark.is (c.mark.ensures.answers s h)
+
 pub returns-in-Sweep-clause-answers : goal.returns-in-Sweep-clause-answers
 returns-in-Sweep-clause-answers g c = λ s h. rw c.in-Sweep.is (c.sweep.ensures.answers s h)
 

@@ -1,0 +1,164 @@
+-- The completion of what is under way, and a collection, from what was done to the heap and what was written.
+use Rattle.std.proofs.Common.{◌≡◌, ◌≢◌, ◌+◌, ◌<◌, ◌^◌, ℕ, List, [], ◌++◌, length, map, refl, sym, ap, ◌∙◌, subst, Option, Result, Ok, Err, OnErr, ⊎_elim}
+use Rattle.std.specs.Prelude.{IfOk}
+use Rattle.std.specs.Io.KnownBytes.{Appends}
+use Rattle.std.proofs.KnownBytes.{Appends-nil, Appends-trans}
+use Rattle.std.proofs.lemmas.List.{map-append}
+use Rattle.std.proofs.lemmas.Result.{IfOk-weaker, on_err_weaker}
+use Rattle.space_io.specs.Sinks.{AppendsPrefix}
+use Rattle.space_model.specs.declared.event.Event.{Event}
+use Rattle.space_model.specs.declared.event.Kind.{Kind}
+use Rattle.space_model.specs.declared.event.Kind.TheVariants.{Major}
+use Rattle.space_model.specs.declared.phase.Phase.TheVariants.{Idle, Marking, Sweeping}
+use Rattle.space_model.specs.Outputs.{Told}
+use Rattle.space_model.specs.Texts.{text_of}
+use Rattle.space_model.specs.Verdicts.{verdict_events}
+use Rattle.space_heap.specs.HeapView.{HeapView}
+use Rattle.space_heap.specs.SoundHeap.{IsSoundHeap}
+use Rattle.space_collector.specs.GoneNames.{gone_names}
+use Rattle.space_collector.specs.HeapVerdicts.{IsHeapVerdict}
+use Rattle.space_collector.specs.PagesSwept.{SweepsAll}
+use Rattle.space_collector.proofs.HeapVerdictLaws.{phase-verdict}
+use Rattle.space_collector.proofs.ToldLines.{text_of-append, prefix_after, prefix_longer}
+use Rattle.space_engine.specs.Counting.{no_counts}
+use Rattle.space_engine.specs.HeapCollections.{IsTelling, IsHeapCompletion, IsHeapCollection, IsTickedCollection, AreTold, AreCut}
+use Rattle.space_engine.specs.Turns.{IsAtRest}
+use Rattle.space_engine.proofs.Collecting.{phase_at_rest}
+use Rattle.space_engine.proofs.OutputLists.{counted_names, counted_both}
+
+-- what is so of events is so of those that were written
+told_weaker : (P Q : List Event → Type 0) (gone : ℕ) (before after : Option (List ℕ)) → ((events : List Event) → P events → Q events) →
+    AreTold P gone before after → AreTold Q gone before after
+told_weaker P Q gone before after so t = record { events = t.events; are = so t.events t.are; counted = t.counted; written = t.written }
+
+-- and of those that were cut off
+cut_weaker : (P Q : List Event → Type 0) (before after : Option (List ℕ)) → ((events : List Event) → P events → Q events) →
+    AreCut P before after → AreCut Q before after
+cut_weaker P Q before after so t = record { events = t.events; are = so t.events t.are; prefix = t.prefix }
+
+-- the lines of a verdict tell of all that it took
+pub telling_told : (old new : HeapView) (kind : Kind) (roots stack : List ℕ) (scans gone : ℕ) (before after : Option (List ℕ)) →
+    IsHeapVerdict old new kind roots stack scans → scans < 2 ^ 27 → gone ≡ length (gone_names new) →
+    Appends before after (text_of (map Told (verdict_events kind (gone_names new)))) →
+    AreTold (IsTelling old new kind roots stack scans) gone before after
+telling_told old new kind roots stack scans gone before after verdict few many written = record {
+  events = verdict_events kind (gone_names new);
+  are = record { verdict = verdict; few = few; events_are = refl };
+  counted = counted_names kind (gone_names new) (length (gone_names new)) ∙ ap (λ n. record no_counts { gone = n }) (sym many);
+  written = written;
+}
+
+-- a marking was ended, which left the heap `judged`, and then every page was swept
+module _ (old judged idle : HeapView) (roots stack : List ℕ) (marking : old.phase ≡ Marking) (sweeps : SweepsAll judged idle) {T E : Type 0}
+    (result : Result T E) (scans gone : T → ℕ) (before after : Option (List ℕ)) where
+  abbrev Tells : ℕ → List Event → Type 0
+  Tells scans events = IsTelling old judged Major roots stack scans events
+
+  abbrev Completes : ℕ → List Event → Type 0
+  Completes scans events = IsHeapCompletion old idle roots stack scans events
+
+  ends : (scans : ℕ) (events : List Event) → Tells scans events → Completes scans events
+  ends scans events t = record {
+    marking = λ is. record { judged = judged; tells = t; sweeps = sweeps };
+    others = λ other. absurd (other marking);
+  }
+
+  pub ended_done : IfOk result (λ ended. AreTold (Tells (scans ended)) (gone ended) before after) →
+      IfOk result (λ ended. AreTold (Completes (scans ended)) (gone ended) before after)
+  ended_done told = IfOk-weaker result _ _ (λ ended t. told_weaker (Tells (scans ended)) (Completes (scans ended)) (gone ended) before after (ends (scans ended)) t) told
+
+  pub ended_fault : OnErr result (AreCut (λ events. (scans : ℕ) × Tells scans events) before after) →
+      OnErr result (AreCut (λ events. (scans : ℕ) × Completes scans events) before after)
+  ended_fault cut = on_err_weaker result (λ t. cut_weaker _ _ before after (λ events (scans, tells). (scans, ends scans events tells)) t) cut
+
+  -- nothing is under way then
+  pub ended_idle : IfOk result (λ ended. AreTold (Tells (scans ended)) (gone ended) before after) →
+      OnErr result (AreCut (λ events. (scans : ℕ) × Tells scans events) before after) →
+      (judged.phase ≡ Sweeping → idle.phase ≡ Idle) → (judged.phase ≢ Sweeping → idle ≡ judged) → idle.phase ≡ Idle
+  ended_idle told cut swept same = idle_by result told cut
+    where
+      by_verdict : (scans : ℕ) (events : List Event) → Tells scans events → idle.phase ≡ Idle
+      by_verdict scans events t = ⊎_elim
+          (λ at. ap (λ (w : HeapView). w.phase) (same (λ e. cc)) ∙ at)
+          swept
+          (phase-verdict old judged Major roots stack scans t.verdict)
+
+      idle_by : (result : Result T E) → IfOk result (λ ended. AreTold (Tells (scans ended)) (gone ended) before after) →
+          OnErr result (AreCut (λ events. (scans : ℕ) × Tells scans events) before after) → idle.phase ≡ Idle
+      idle_by (Ok ended) told cut = by_verdict (scans ended) told.events told.are
+      idle_by (Err fault) told cut = by_verdict cut.are.0 cut.events cut.are.1
+
+-- outside a marking every page was swept, and nothing else was done
+module _ (old idle : HeapView) (roots stack : List ℕ) (other : old.phase ≢ Marking) (sound : IsSoundHeap old) (sweeps : SweepsAll old idle) where
+  pub swept_done : (before : Option (List ℕ)) → AreTold (IsHeapCompletion old idle roots stack 0) 0 before before
+  swept_done before = record {
+    events = [];
+    are = record {
+      marking = λ marking. absurd (other marking);
+      others = λ is. record { sound = sound; sweeps = sweeps; no_scans = refl; no_events = refl };
+    };
+    counted = refl;
+    written = Appends-nil before;
+  }
+
+  pub swept_idle : IsAtRest old → (old.phase ≡ Sweeping → idle.phase ≡ Idle) → (old.phase ≢ Sweeping → idle ≡ old) → idle.phase ≡ Idle
+  swept_idle rests swept same = ⊎_elim
+      (λ at. ap (λ (w : HeapView). w.phase) (same (λ e. cc)) ∙ at)
+      (⊎_elim (λ marking. absurd (other marking)) swept)
+      (phase_at_rest old.phase rests.0 rests.1)
+
+-- a collection: a completion, which left the heap `idle`, and then a verdict of the kind, which left the last heap
+module _ (old idle new : HeapView) (kind : Kind) (roots stack : List ℕ) (scans : ℕ) (verdict : IsHeapVerdict idle new kind roots stack scans)
+    (few : scans < 2 ^ 27) where
+  abbrev told : List Event
+  told = verdict_events kind (gone_names new)
+
+  collection : (ended : ℕ) (completion : List Event) → IsHeapCompletion old idle roots stack ended completion →
+      IsHeapCollection old new kind roots stack ended scans (completion ++ told)
+  collection ended completion c = record {
+    idle = idle;
+    completion = completion;
+    completes = c;
+    told = told;
+    tells = record { verdict = verdict; few = few; events_are = refl };
+    events_are = refl;
+  }
+
+  both_texts : (completion : List Event) → text_of (map Told (completion ++ told)) ≡ text_of (map Told completion) ++ text_of (map Told told)
+  both_texts completion = ap text_of (map-append Told completion told) ∙ text_of-append (map Told completion) (map Told told)
+
+  module _ (before middle after : Option (List ℕ)) where
+    -- the lines of both were written
+    pub collected_done : (ended first second ticks ticked : ℕ) → AreTold (IsHeapCompletion old idle roots stack ended) first before middle →
+        second ≡ length (gone_names new) → Appends middle after (text_of (map Told told)) → ticked ≡ ticks + ended + scans →
+        AreTold (IsTickedCollection old new kind roots stack scans ticks ticked) (first + second) before after
+    collected_done ended first second ticks ticked c many written rose = record {
+      events = c.events ++ told;
+      are = record { ended = ended; collects = collection ended c.events c.are; rose = rose };
+      counted = counted_both c.events told first second c.counted
+          (counted_names kind (gone_names new) (length (gone_names new)) ∙ ap (λ n. record no_counts { gone = n }) (sym many));
+      written = subst (Appends before after) (sym (both_texts c.events))
+          (Appends-trans before middle after (text_of (map Told c.events)) (text_of (map Told told)) c.written written);
+    }
+
+    -- those of the verdict were cut off
+    pub verdict_cut : (ended first : ℕ) → AreTold (IsHeapCompletion old idle roots stack ended) first before middle →
+        AppendsPrefix middle after (text_of (map Told told)) →
+        AreCut (λ events. (ended scans : ℕ) × IsHeapCollection old new kind roots stack ended scans events) before after
+    verdict_cut ended first c prefix = record {
+      events = c.events ++ told;
+      are = (ended, scans, collection ended c.events c.are);
+      prefix = subst (AppendsPrefix before after) (sym (both_texts c.events))
+          (prefix_after before middle after (text_of (map Told c.events)) (text_of (map Told told)) c.written prefix);
+    }
+
+  -- those of the completion were cut off, and those of the verdict weren't written
+  pub completion_cut : (before after : Option (List ℕ)) →
+      AreCut (λ events. (ended : ℕ) × IsHeapCompletion old idle roots stack ended events) before after →
+      AreCut (λ events. (ended scans : ℕ) × IsHeapCollection old new kind roots stack ended scans events) before after
+  completion_cut before after cut = record {
+    events = cut.events ++ told;
+    are = (cut.are.0, scans, collection cut.are.0 cut.events cut.are.1);
+    prefix = subst (AppendsPrefix before after) (sym (both_texts cut.events))
+        (prefix_longer before after (text_of (map Told cut.events)) (text_of (map Told told)) cut.prefix);
+  }

@@ -1,0 +1,68 @@
+-- A marking is ended and then pages are swept, or pages alone are.
+use Rattle.std.proofs.Common.{rules, ◌≡◌, ◌≢◌, ap, ◌∙◌, subst}
+use Rattle.space_model.specs.declared.phase.Phase.TheVariants.{Idle, Marking, Sweeping}
+use Rattle.space_heap.specs.HeapView.{HeapView}
+use Rattle.space_heap.specs.SoundHeap.{IsSoundHeap}
+use Rattle.space_roots.specs.WordRoots.{root_words}
+use Rattle.space_collector.specs.declared.collection.Collected.{Collected}
+use Rattle.space_collector.specs.PagesSwept.{SweepsAll}
+use Rattle.space_engine.specs.Views.{View}
+use Rattle.space_engine.proofs.Completing.{ended_done, ended_fault, ended_idle, swept_done, swept_idle}
+use Rattle.space_engine.proofs.engine.Engine.complete.Goals.{then-eq, else-eq}
+use Rattle.space_engine.proofs.engine.Engine.complete.Goals as goal
+
+pub returns-clause-done : goal.returns-clause-done
+returns-clause-done g c = elim c.if-eq.branch [
+  | then-eq w ↦
+      let old = c.args.self.now in
+      let marking : old.heap.phase ≡ Marking = search rules in
+      let judged = ap (λ (v : View). v.heap) (c.self-2.view_is ∙ w.self-is) in
+      let sweeps = subst (λ (heap : HeapView). SweepsAll heap c.sweep_all.new.heap) judged c.sweep_all.ensures.swept in
+      rw (w.ended-is, w.sink-is)
+      (ended_done old.heap w.end_marking-ended.new.self.heap c.sweep_all.new.heap (root_words old.roots) old.stack marking sweeps
+      w.end_marking-ended.result (λ (ended : Collected). ended.scans) (λ (ended : Collected). ended.gone) _ _ w.end_marking-ended.ensures.done)
+  | else-eq w ↦
+      let old = c.args.self.now in
+      let other : old.heap.phase ≢ Marking = search rules in
+      let same = ap (λ (v : View). v.heap) (c.self-2.view_is ∙ w.self-is) in
+      let sound = subst IsSoundHeap same c.sweep_all.ensures.sound_before in
+      let sweeps = subst (λ (heap : HeapView). SweepsAll heap c.sweep_all.new.heap) same c.sweep_all.ensures.swept in
+      rw (w.ended-is, w.sink-is)
+      (swept_done old.heap c.sweep_all.new.heap (root_words old.roots) old.stack other sound sweeps _)
+]
+
+pub returns-clause-fault : goal.returns-clause-fault
+returns-clause-fault g c = elim c.if-eq.branch [
+  | then-eq w ↦
+      let old = c.args.self.now in
+      let marking : old.heap.phase ≡ Marking = search rules in
+      let judged = ap (λ (v : View). v.heap) (c.self-2.view_is ∙ w.self-is) in
+      let sweeps = subst (λ (heap : HeapView). SweepsAll heap c.sweep_all.new.heap) judged c.sweep_all.ensures.swept in
+      rw (w.ended-is, w.sink-is)
+      (ended_fault old.heap w.end_marking-ended.new.self.heap c.sweep_all.new.heap (root_words old.roots) old.stack marking sweeps
+      w.end_marking-ended.result (λ (ended : Collected). ended.scans) (λ (ended : Collected). ended.gone) _ _ w.end_marking-ended.ensures.fault)
+  | else-eq w ↦ rw w.ended-is tt
+]
+
+pub returns-clause-idle : goal.returns-clause-idle
+returns-clause-idle g c = elim c.if-eq.branch [
+  | then-eq w ↦
+      let old = c.args.self.now in
+      let marking : old.heap.phase ≡ Marking = search rules in
+      let judged = ap (λ (v : View). v.heap) (c.self-2.view_is ∙ w.self-is) in
+      let sweeps = subst (λ (heap : HeapView). SweepsAll heap c.sweep_all.new.heap) judged c.sweep_all.ensures.swept in
+      ended_idle old.heap w.end_marking-ended.new.self.heap c.sweep_all.new.heap (root_words old.roots) old.stack marking sweeps
+      w.end_marking-ended.result (λ (ended : Collected). ended.scans) (λ (ended : Collected). ended.gone) _ _
+      w.end_marking-ended.ensures.done w.end_marking-ended.ensures.fault
+      (subst (λ (heap : HeapView). heap.phase ≡ Sweeping → c.sweep_all.new.heap.phase ≡ Idle) judged c.sweep_all.ensures.idle)
+      (subst (λ (heap : HeapView). heap.phase ≢ Sweeping → c.sweep_all.new.heap ≡ heap) judged c.sweep_all.ensures.same)
+  | else-eq w ↦
+      let old = c.args.self.now in
+      let other : old.heap.phase ≢ Marking = search rules in
+      let same = ap (λ (v : View). v.heap) (c.self-2.view_is ∙ w.self-is) in
+      let sound = subst IsSoundHeap same c.sweep_all.ensures.sound_before in
+      let sweeps = subst (λ (heap : HeapView). SweepsAll heap c.sweep_all.new.heap) same c.sweep_all.ensures.swept in
+      swept_idle old.heap c.sweep_all.new.heap (root_words old.roots) old.stack other sound sweeps c.requires.able.rests
+      (subst (λ (heap : HeapView). heap.phase ≡ Sweeping → c.sweep_all.new.heap.phase ≡ Idle) same c.sweep_all.ensures.idle)
+      (subst (λ (heap : HeapView). heap.phase ≢ Sweeping → c.sweep_all.new.heap ≡ heap) same c.sweep_all.ensures.same)
+]
