@@ -1,7 +1,9 @@
 // `run` on traces in memory, with the answers that its definitions give, written out by hand.
 mod collections;
+mod completion;
 mod ends;
 mod generations;
+mod marking;
 mod objects;
 mod stack;
 mod sweeping;

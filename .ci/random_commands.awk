@@ -1,0 +1,92 @@
+# Writes 10,000 random commands of a trace, always the same ones: the numbers are those of Park and Miller's minimal standard generator (1988).
+# The last quarter of each thousand makes large objects, until a heap of three pages has no room for one while a marking is under way.
+
+# A number from 0 to n - 1.
+function below(n) {
+    seed = seed * 16807 % 2147483647
+    return seed % n
+}
+
+function say(line) {
+    if (number++ < 10000) print line
+}
+
+# A root of an object, and one for what is loaded.
+function root() {
+    return substr("abcdef", below(6) + 1, 1)
+}
+
+function loaded() {
+    return substr("pqr", below(3) + 1, 1)
+}
+
+# A root, or a stack word, of which there may be fewer than `depth`, as a push can be refused.
+function operand(    pick) {
+    pick = below(12)
+    return pick == 0 && depth > 0 ? "@" below(depth) : pick < 4 ? loaded() : root()
+}
+
+function value(    pick) {
+    pick = below(16)
+    return pick == 0 ? "nil" : pick == 1 ? "=" below(1000) : operand()
+}
+
+function make(name, fields) {
+    say("new " name " " fields " " (below(3) == 0 ? "U" : "P") " M")
+}
+
+function push() {
+    say("push " value())
+    depth++
+}
+
+function pop() {
+    say("pop")
+    if (depth > 0) depth--
+}
+
+# A new object that only a field holds: one of a protected object, of an unprotected one, or of one that was protected.
+function hide(    object, way) {
+    object = root()
+    way = below(4)
+    make("child", 2)
+    if (way == 0) say("unprotect " object)
+    say((way < 2 ? "rawstore " : "store ") object " " below(2) " child")
+    say("drop child")
+}
+
+function mutate(    pick) {
+    pick = below(100)
+    if (pick < 12) make(root(), substr("233338888", below(9) + 1, 1))
+    else if (pick < 20) hide()
+    else if (pick < 38) say("store " operand() " " below(3) " " value())
+    else if (pick < 46) say("rawstore " operand() " " below(3) " " value())
+    else if (pick < 76) say("load " loaded() " " operand() " " below(3))
+    else if (pick < 85) say("same " operand() " " operand())
+    else if (pick < 89) say("set " root() " " operand())
+    else if (pick < 91) say("drop " root())
+    else if (pick < 95 && depth < 6) push()
+    else if (pick < 99) pop()
+    else say("unprotect " operand())
+}
+
+function collect(    pick) {
+    pick = below(13)
+    if (pick < 2) say("minor")
+    else if (pick < 3) say("gc")
+    else if (pick < 7) say("major")
+    else if (pick < 10) say("finish")
+    else say("sweep " below(4))
+}
+
+BEGIN {
+    seed = 3
+    while (number < 10000) {
+        was_crowded = is_crowded
+        is_crowded = number % 1000 >= 750
+        if (is_crowded && !was_crowded) say("major")
+        else if (is_crowded && below(2) == 0) make(root(), 78)
+        else if (!is_crowded && below(16) == 0) collect()
+        else mutate()
+    }
+}
