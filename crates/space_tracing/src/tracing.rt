@@ -81,6 +81,7 @@ pub fn scan_again<L: Ledger>(heap: &mut Heap, address: u64, steps: &mut Steps<L>
 /// Scans the object that became grey last: it is black, and its fields were visited in their order, in one step. Where it has
 /// age 2 or more it is remembered exactly where it has a protected child of age 0 or 1, and its unprotected children are kept
 /// (CRuby 3.3).
+#[inline(always)]
 pub fn scan<L: Ledger>(heap: &mut Heap, address: u64, steps: &mut Steps<L>)
     requires object { is_occupied heap.old address ≡ true }
     requires last { IsLastGrey heap.old address }
