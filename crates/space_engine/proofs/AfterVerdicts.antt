@@ -19,6 +19,7 @@ use Rattle.space_model.specs.Moments.{noted, mixed_names, with_names}
 use Rattle.space_model.specs.Operands.{value_word}
 use Rattle.space_model.specs.Pages.{pool_at as pool_of_page, pool_pages}
 use Rattle.space_model.specs.Roots.{Root, root_names}
+use Rattle.space_model.specs.Sound.{AreSoundEntries}
 use Rattle.space_model.specs.State.{State, History, Counters}
 use Rattle.space_model.specs.Verdicts.{IsVerdict}
 use Rattle.space_model.proofs.MapLaws.{get-without, get-carried_over, held_without, held_over}
@@ -29,7 +30,7 @@ use Rattle.space_heap.specs.declared.colour.Colour.TheVariants.{White, Grey, Bla
 use Rattle.space_heap.specs.Slots.{ObjectView}
 use Rattle.space_heap.specs.HeapView.{HeapView, Counters as HeapCounters, pool_at}
 use Rattle.space_heap.specs.Marking.{colour_of}
-use Rattle.space_heap.specs.Objects.{is_occupied, is_object, object_of}
+use Rattle.space_heap.specs.Objects.{is_occupied, is_object, object_of, resolved}
 use Rattle.space_heap.specs.Sweeping.{is_white, is_gone, settled, settled_object, phase_with, minors_after, others_after, pooled_pages, HasNoGone}
 use Rattle.space_heap.proofs.FreeLaws.{is_moved-settled}
 use Rattle.space_heap.proofs.MarkingLaws.{White-from_is_white}
@@ -40,12 +41,14 @@ use Rattle.space_collector.specs.GoneNames.{name_at, gone_names}
 use Rattle.space_collector.specs.Quiescent.{HasNoGrey}
 use Rattle.space_collector.proofs.GoneLists.{member_gone_names, gone_names_rising}
 use Rattle.space_model.specs.StoredWords.{is_stale, stored_word, map_from}
+use Rattle.space_weak.specs.WeakEntries.{is_live}
 use Rattle.space_engine.specs.Generations.{HasGenerations}
 use Rattle.space_engine.specs.Stands.{HasObjects, HasCorpses, HasLeft, HasPages, HasProgress, HasCounted, Represents}
-use Rattle.space_engine.specs.Views.{View, with_heap}
+use Rattle.space_engine.specs.Views.{View, with_judged}
 use Rattle.space_engine.specs.Words.{word_roots}
 use Rattle.space_engine.proofs.Outcomes.{none_some, some_same}
 use Rattle.space_engine.proofs.ResolvedRoots.{resolved_roots-same}
+use Rattle.space_engine.proofs.TablesJudged.{ids_judged, weak_judged}
 
 -- words of values that stay
 module _ (place left : FinMap nat_cmp ℕ) (taken : List ℕ) where
@@ -189,6 +192,19 @@ module _ (v : View) (s : State) (h : Represents v s) (clean : HasNoGone v.heap) 
       let parts = and_parts _ _ (sym (gone_is a) ∙ e) in
       ap (λ (o : Option ℕ). unwrap_or o 0) (ap (get s.heap.place) (name_stays a) ∙ h.heap.objects.only a parts.0))
 
+  -- words lead where they led
+  leads : (word : ℕ) → resolved w word ≡ resolved v.heap word
+  leads word = resolved-settled marked kind word ∙ same.moves word
+
+  -- the object of a present name is live where the name isn't taken
+  live_left : (name address : ℕ) → get s.heap.place name ≡ Some (resolved v.heap address) → is_live w address ≡ not (is_member nat_eq taken name)
+  live_left name address e =
+      let at : ℕ = resolved v.heap address in
+      ap (is_object w) (leads address)
+      ∙ kept_is at
+      ∙ ap (λ b. b && not (unmarked_at at)) (h.heap.objects.stands name at e)
+      ∙ ap not (sym (taken_at name at e))
+
   -- a name that is left is one that was present, and isn't taken
   present_left : (n a : ℕ) → get place' n ≡ Some a → is_object w a ≡ true
   present_left n a e =
@@ -324,9 +340,9 @@ module _ (v : View) (s : State) (h : Represents v s) (clean : HasNoGone v.heap) 
       abbrev pub mixed' : List ℕ
       mixed' = with_names (mixed_names (took s kind taken)) history.mixed
 
-      pub settled_represents : HasGenerations s.graph place' (took s kind taken).collector mixed' w →
-          Represents (with_heap v w) (noted (took before kind taken))
-      settled_represents generations = record {
+      pub settled_represents : AreSoundEntries s.heap.place s.tables.weak → HasGenerations s.graph place' (took s kind taken).collector mixed' w →
+          Represents (with_judged v w) (noted (took before kind taken))
+      settled_represents sound generations = record {
         heap = record {
           objects = objects_left;
           corpses = corpses_left;
@@ -337,8 +353,10 @@ module _ (v : View) (s : State) (h : Represents v s) (clean : HasNoGone v.heap) 
         };
         generations = generations;
         colours = λ marking. absurd (sweeps_mark_none (pool_pages s.heap.pages) marking);
-        roots = resolved_roots-same v.heap w (λ word. resolved-settled marked kind word ∙ same.moves word) v.roots
+        roots = resolved_roots-same v.heap w leads v.roots
             ∙ h.roots
             ∙ sym (roots-without s.heap.place s.heap.left taken s.roots root_stays);
         stack = h.stack;
+        ids = ids_judged s.heap.place taken v.heap w leads live_left s.tables.ids v.ids h.ids;
+        weak = weak_judged s.heap.place taken v.heap w leads live_left s.tables.weak v.weak sound h.weak;
       }

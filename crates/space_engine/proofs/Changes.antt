@@ -47,6 +47,8 @@ module _ (v : View) (s : State) (h : Holds v s) where
         ∙ ap (λ words. with_root_word words root (value_word s.heap.place value)) h.represents.roots
         ∙ with_root_word-word_roots s.heap.place s.roots root value;
     stack = h.represents.stack;
+    ids = h.represents.ids;
+    weak = h.represents.weak;
   }
 
   -- a root was taken away
@@ -58,6 +60,8 @@ module _ (v : View) (s : State) (h : Holds v s) where
     roots = sym (without_word-resolved v.heap v.roots root) ∙ ap (λ words. without_word words root) h.represents.roots
         ∙ without_word-word_roots s.heap.place s.roots root;
     stack = h.represents.stack;
+    ids = h.represents.ids;
+    weak = h.represents.weak;
   }
 
   -- the stack has other words
@@ -68,4 +72,6 @@ module _ (v : View) (s : State) (h : Holds v s) where
     colours = same_colours (stack_replaced s words);
     roots = h.represents.roots;
     stack = refl;
+    ids = h.represents.ids;
+    weak = h.represents.weak;
   }

@@ -22,13 +22,14 @@ use Rattle.space_roots.specs.WordRoots.{root_words}
 use Rattle.space_collector.specs.GoneNames.{gone_names}
 use Rattle.space_collector.proofs.AllSweeps.{sweeps_none}
 use Rattle.space_engine.specs.HeapCollections.{EndsAndSweeps, IsHeapCompletion, IsHeapCollection}
-use Rattle.space_engine.specs.Stands.{Holds}
+use Rattle.space_engine.specs.Stands.{Represents, Holds}
 use Rattle.space_engine.specs.Ticks.{AreCompletionScans}
 use Rattle.space_engine.specs.Turns.{IsAtRest}
-use Rattle.space_engine.specs.Views.{View, with_heap}
+use Rattle.space_engine.specs.Views.{View, with_heap, with_judged}
 use Rattle.space_engine.proofs.CollectionVerdicts.{VerdictOf, collection_verdict}
 use Rattle.space_engine.proofs.Ending.{EndsTo, ends_to, ending_spelled, telling_spelled}
 use Rattle.space_engine.proofs.OutputLists.{spelled_both}
+use Rattle.space_engine.proofs.Purges.{completed_view, completed_unmarked, completed_marking, judged_completed}
 use Rattle.space_engine.proofs.SweptPages.{SweepsTo, swept_pages_hold}
 use Rattle.space_engine.proofs.WholeVerdicts.{none_gone_in}
 
@@ -45,7 +46,7 @@ pub record CompletesTo (v : View) (s : State) (idle : HeapView) (scans : ℕ) (e
   pub state : State
   pub completes : Completes s events state
   pub scans_are : AreCompletionScans s scans
-  pub holds : Holds (with_heap v idle) state
+  pub holds : Holds (completed_view v idle) state
   pub at_idle : state.collector.phase ≡ Idle
 
 module _ (v : View) (s : State) (h : Holds v s) (rests : IsAtRest v.heap) (idle : HeapView) (scans : ℕ) (events : List Event)
@@ -53,7 +54,7 @@ module _ (v : View) (s : State) (h : Holds v s) (rests : IsAtRest v.heap) (idle 
   is_at : (phase : Phase) → v.heap.phase ≡ phase → s.collector.phase ≡ phase
   is_at phase at = sym h.represents.heap.progress.at ∙ at
 
-  completed_to : (state : State) → Completes s events state → AreCompletionScans s scans → Holds (with_heap v idle) state →
+  completed_to : (state : State) → Completes s events state → AreCompletionScans s scans → Holds (completed_view v idle) state →
       CompletesTo v s idle scans events
   completed_to state completes scans_are holds = record {
     state = state;
@@ -63,7 +64,11 @@ module _ (v : View) (s : State) (h : Holds v s) (rests : IsAtRest v.heap) (idle 
     at_idle = completed_idle s state events completes h.sound;
   }
 
-  -- outside a marking nothing was scanned
+  -- outside a marking nothing was purged
+  unmarked_holds : (state : State) → v.heap.phase ≢ Marking → Holds (with_heap v idle) state → Holds (completed_view v idle) state
+  unmarked_holds state other holds = subst (λ (w : View). Holds w state) (sym (completed_unmarked v idle other)) holds
+
+  -- and nothing was scanned
   no_scans : v.heap.phase ≢ Marking → AreCompletionScans s scans
   no_scans other = record {
     marking = λ marking. absurd (other (h.represents.heap.progress.at ∙ marking));
@@ -78,7 +83,7 @@ module _ (v : View) (s : State) (h : Holds v s) (rests : IsAtRest v.heap) (idle 
       let at = is_at Idle nothing in
       let same : idle ≡ v.heap = sweeps_none v.heap idle (sym h.represents.heap.pages.waiting ∙ h.sound.sweep.none (λ e. cc)) only.sweeps in
       completed_to s (subst (λ phase. CompletesIn phase s events s) (sym at) (only.no_events, refl)) (no_scans other)
-      (subst (λ heap. Holds (with_heap v heap) s) (sym same) h)
+      (unmarked_holds s other (subst (λ heap. Holds (with_heap v heap) s) (sym same) h))
 
   -- the sweeps of all pages, in words of the state before them
   swept_all : (w : View) (t : State) (pages : List ℕ) → t.heap.unswept ≡ pages → (to : SweepsTo w t idle (length pages)) →
@@ -94,14 +99,14 @@ module _ (v : View) (s : State) (h : Holds v s) (rests : IsAtRest v.heap) (idle 
       completed_to swept.state
       (subst (λ phase. CompletesIn phase s events swept.state) (sym at)
       (swept.freed, only.no_events, swept_all v s v.heap.unswept h.represents.heap.pages.waiting swept))
-      (no_scans other) swept.holds
+      (no_scans other) (unmarked_holds swept.state other swept.holds)
 
   completes_marking : v.heap.phase ≡ Marking → CompletesTo v s idle scans events
   completes_marking marking =
       let both : EndsAndSweeps v.heap idle (root_words v.roots) v.stack scans events = c.marking marking in
       let at = is_at Marking marking in
       let ended : EndsTo v s both.judged scans events = ends_to v s h marking both.judged scans events both.tells in
-      let w = with_heap v both.judged in
+      let w = with_judged v both.judged in
       let swept : SweepsTo w ended.state idle (length both.judged.unswept) =
       swept_pages_hold (length both.judged.unswept) w ended.state idle ended.holds both.tells.verdict.sound both.sweeps in
       completed_to swept.state
@@ -113,7 +118,7 @@ module _ (v : View) (s : State) (h : Holds v s) (rests : IsAtRest v.heap) (idle 
         sweeps = swept_all w ended.state both.judged.unswept ended.holds.represents.heap.pages.waiting swept;
       }))
       (record { marking = λ e. (events, ended.state, ended.ends); others = λ other. absurd (other at) })
-      swept.holds
+      (subst (λ (w : View). Holds w swept.state) (sym (completed_marking v both.judged idle marking both.sweeps)) swept.holds)
 
   pub completes_to : CompletesTo v s idle scans events
   completes_to = ⊎_elim completes_nothing (⊎_elim completes_marking completes_sweeps) (phase_at_rest v.heap.phase rests.0 rests.1)
@@ -135,7 +140,7 @@ pub record CollectsTo (v : View) (s : State) (new : HeapView) (kind : Kind) (end
   pub state : State
   pub collects : IsCollection s kind events scans state
   pub ended_are : AreCompletionScans s ended
-  pub holds : Holds (with_heap v new) state
+  pub holds : Holds (with_judged v new) state
 
 module _ (v : View) (s : State) (h : Holds v s) (rests : IsAtRest v.heap) (new : HeapView) (kind : Kind) (other : kind ≢ Major) (ended scans : ℕ)
     (events : List Event) (c : IsHeapCollection v.heap new kind (root_words v.roots) v.stack ended scans events) where
@@ -146,13 +151,13 @@ module _ (v : View) (s : State) (h : Holds v s) (rests : IsAtRest v.heap) (new :
   idle = completed.state
 
   clean : HasNoGone c.idle
-  clean = none_gone_in (with_heap v c.idle) idle completed.holds (λ e. let at = completed.at_idle in cc)
+  clean = none_gone_in (completed_view v c.idle) idle completed.holds (λ e. let at = completed.at_idle in cc)
 
-  given : VerdictOf (with_heap v c.idle) idle new kind scans
+  given : VerdictOf (completed_view v c.idle) idle new kind scans
   given =
       let at = completed.at_idle in
       let rest = completed.holds.sound.resting (λ e. cc) (λ e. cc) in
-      collection_verdict (with_heap v c.idle) idle new kind scans completed.holds clean rest.0 rest.1 other (λ e. cc) c.tells.verdict
+      collection_verdict (completed_view v c.idle) idle new kind scans completed.holds clean rest.0 rest.1 other (λ e. cc) c.tells.verdict
 
   -- the state after the verdict
   abbrev settled : State
@@ -178,7 +183,8 @@ module _ (v : View) (s : State) (h : Holds v s) (rests : IsAtRest v.heap) (new :
     collects = collection;
     ended_are = completed.scans_are;
     holds = record {
-      represents = given.represents;
+      represents = subst (λ (w : View). Represents w settled)
+          (judged_completed v c.idle new kind (root_words v.roots) v.stack scans clean c.tells.verdict) given.represents;
       sound = Sound-collection s settled kind events scans collection h.sound;
     };
   }

@@ -16,7 +16,7 @@ use Rattle.space_engine.specs.HeapCollections.{IsCollecting, IsHeapCollection, I
 use Rattle.space_engine.specs.Stands.{Represents}
 use Rattle.space_engine.specs.Ticks.{IsCompletedTicked, IsTicked}
 use Rattle.space_engine.specs.Turns.{CanAnswer}
-use Rattle.space_engine.specs.Views.{View, with_heap}
+use Rattle.space_engine.specs.Views.{View, with_judged}
 use Rattle.space_engine.proofs.Collecting.{collects_to, collection_spelled}
 
 collects_by : (s : State) (command : Command) (kind : Kind) → IsCollecting command kind → (events : List Event) (scans : ℕ) (t : State) →
@@ -35,7 +35,7 @@ ticked_by s Minor kind k events scans ticks ticked rose = rose
 ticked_by s Gc kind k events scans ticks ticked rose = rose
 ticked_by s _ kind k events scans ticks ticked rose = absurd k
 
-module _ (v new : View) (rest : new ≡ with_heap v new.heap) (able : CanAnswer v.heap) (command : Command) (kind : Kind) (other : kind ≢ Major)
+module _ (v new : View) (rest : new ≡ with_judged v new.heap) (able : CanAnswer v.heap) (command : Command) (kind : Kind) (other : kind ≢ Major)
     (by : IsCollecting command kind) where
   lawful : (ended scans : ℕ) (events : List Event) → IsHeapCollection v.heap new.heap kind (root_words v.roots) v.stack ended scans events →
       IsLawfulAnswer v new command events (Scanned scans)

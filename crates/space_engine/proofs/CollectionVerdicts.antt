@@ -22,7 +22,7 @@ use Rattle.space_tracing.specs.Marking.{IsMarked}
 use Rattle.space_collector.specs.GoneNames.{gone_names}
 use Rattle.space_collector.specs.HeapVerdicts.{IsKindMarking, IsHeapVerdict}
 use Rattle.space_engine.specs.Stands.{Represents, Holds}
-use Rattle.space_engine.specs.Views.{View, with_heap}
+use Rattle.space_engine.specs.Views.{View, with_judged}
 use Rattle.space_engine.proofs.AfterVerdicts.{marked_stays, stays_marked, settled_represents}
 use Rattle.space_engine.proofs.GenerationNames.{IsJudgedIn, ready}
 use Rattle.space_engine.proofs.GenerationVerdicts.{generations_after}
@@ -37,7 +37,7 @@ use Rattle.space_engine.proofs.WholeVerdicts.{settled_verdict}
 pub record VerdictOf (v : View) (s : State) (new : HeapView) (kind : Kind) (scans : ℕ) : Type 0 where
   pub verdict : IsVerdict (mark_started s) kind (gone_names new)
   pub scans_are : AreScans kind s (mark_started s) (gone_names new) scans
-  pub represents : Represents (with_heap v new) (noted (took (mark_started s) kind (gone_names new)))
+  pub represents : Represents (with_judged v new) (noted (took (mark_started s) kind (gone_names new)))
 
 -- what a verdict asks of a state stays where a marking starts
 marked_verdict : (s : State) (kind : Kind) (taken : List ℕ) → kind ≢ Major → IsVerdict s kind taken → IsVerdict (mark_started s) kind taken
@@ -78,6 +78,7 @@ module _ (v : View) (s : State) (h : Holds v s) (clean : HasNoGone v.heap) (unmo
         verdict = marked_verdict s kind (gone_names (settled marked kind)) other verdict;
         scans_are = kind_scans kind other rests c;
         represents = settled_represents v s h.represents clean marked c.same kind unmoved c.none_grey verdict (mark_started s).history
+            h.sound.weak
             (generations_after v s h clean unmoved fresh marked kind (judged_in kind other rests) (mixed_names s) (λ is. absurd (other is)) scans c verdict);
       }
 
@@ -91,7 +92,7 @@ collection_verdict v s new kind scans h clean unmoved fresh other rests c =
 pub record MajorVerdictOf (v : View) (s : State) (new : HeapView) (scans : ℕ) : Type 0 where
   pub verdict : IsVerdict s Major (gone_names new)
   pub scans_are : AreLastScans s (gone_names new) scans
-  pub represents : Represents (with_heap v new) (noted (took s Major (gone_names new)))
+  pub represents : Represents (with_judged v new) (noted (took s Major (gone_names new)))
 
 settled_end : (v : View) (s : State) (h : Holds v s) → HasNoGone v.heap → s.heap.left ≡ empty → s.collector.stale ≡ [] →
     s.collector.phase ≡ Marking → (marked : HeapView) (scans : ℕ) → IsKindMarking v.heap marked Major (root_words v.roots) v.stack scans →
@@ -106,6 +107,7 @@ settled_end v s h clean unmoved fresh marking marked scans c =
           (marked_stays v s h.represents clean marked c.same Major) (stays_marked v s h.represents clean marked c.same Major)
           (h.represents.colours marking).scanned scans c.scanned;
       represents = settled_represents v s h.represents clean marked c.same Major unmoved c.none_grey verdict s.history
+          h.sound.weak
           (generations_after v s h clean unmoved fresh marked Major marking s.history.mixed (λ is. refl) scans c verdict);
     }
 

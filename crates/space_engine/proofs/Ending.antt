@@ -24,7 +24,7 @@ use Rattle.space_collector.proofs.GoneLists.{member_gone_names}
 use Rattle.space_collector.proofs.ToldLines.{verdict_spelled}
 use Rattle.space_engine.specs.HeapCollections.{IsTelling}
 use Rattle.space_engine.specs.Stands.{Holds}
-use Rattle.space_engine.specs.Views.{View, with_heap}
+use Rattle.space_engine.specs.Views.{View, with_judged}
 use Rattle.space_engine.proofs.CollectionVerdicts.{MajorVerdictOf, major_verdict}
 use Rattle.space_engine.proofs.WholeVerdicts.{none_gone_in}
 
@@ -46,7 +46,7 @@ telling_spelled old new kind roots stack scans events t s sound c few =
 pub record EndsTo (v : View) (s : State) (judged : HeapView) (scans : ℕ) (events : List Event) : Type 0 where
   pub state : State
   pub ends : EndsMarking s events scans state
-  pub holds : Holds (with_heap v judged) state
+  pub holds : Holds (with_judged v judged) state
 
 module _ (v : View) (s : State) (h : Holds v s) (marking : v.heap.phase ≡ Marking) (judged : HeapView) (scans : ℕ) (events : List Event)
     (t : IsTelling v.heap judged Major (root_words v.roots) v.stack scans events) where

@@ -11,11 +11,11 @@ use Rattle.space_engine.specs.Answered.{IsLawfulAnswer, IsAnswered, IsCutOff}
 use Rattle.space_engine.specs.HeapCollections.{AreTold, AreCut, IsTelling}
 use Rattle.space_engine.specs.Stands.{Represents}
 use Rattle.space_engine.specs.Turns.{CanAnswer}
-use Rattle.space_engine.specs.Views.{View, with_heap}
+use Rattle.space_engine.specs.Views.{View, with_judged}
 use Rattle.space_engine.proofs.Ending.{EndsTo, ends_to, ending_spelled}
 use Rattle.space_engine.proofs.Stepping.{answered_silently}
 
-module _ (v new : View) (rest : new ≡ with_heap v new.heap) (able : CanAnswer v.heap) (marking : v.heap.phase ≡ Marking) where
+module _ (v new : View) (rest : new ≡ with_judged v new.heap) (able : CanAnswer v.heap) (marking : v.heap.phase ≡ Marking) where
   abbrev Tells : ℕ → List Event → Type 0
   Tells scans events = IsTelling v.heap new.heap Major (root_words v.roots) v.stack scans events
 

@@ -26,6 +26,7 @@ use Rattle.space_engine.proofs.ColoursUnprotected.{colours_unprotected}
 use Rattle.space_engine.proofs.GenerationsByName.{noted_more, old_aged, aged_protected}
 use Rattle.space_engine.proofs.Outcomes.{some_same}
 use Rattle.space_engine.proofs.ResolvedRoots.{resolved_roots-same}
+use Rattle.space_engine.proofs.TablesKept.{ids_led, weak_led}
 use Rattle.space_engine.proofs.UnprotectedObjects.{OneChanged, kept_object, young_object, unprotected_object, unprotected_is, item_cases, heap_unprotected}
 
 -- what is kept after it, and what was kept before
@@ -283,4 +284,6 @@ module _ (v : View) (s : State) (h : Holds v s) (name address : ℕ) (at : get s
     colours = colours_unprotected v s h name address at;
     roots = resolved_roots-same v.heap z changed.leads v.roots ∙ h.represents.roots;
     stack = h.represents.stack;
+    ids = ids_led s.heap.place v.heap z changed.leads s.tables.ids v.ids h.represents.ids;
+    weak = weak_led s.heap.place v.heap z changed.leads s.tables.weak v.weak h.represents.weak;
   }

@@ -13,6 +13,7 @@ mod ColoursKept
 mod Changes
 mod WrittenChildren
 mod FieldChanges
+mod TablesKept
 mod SameHeaps
 mod BarredStores
 mod GenerationsStored
@@ -31,12 +32,16 @@ mod Openings
 mod Reaching
 mod WordResults
 mod RootCommands
+mod OperandObjects
+mod IdCommands
 mod StackCommands
 mod ObjectCommands
 mod WholeVerdicts
+mod TablesJudged
 mod AfterVerdicts
 mod SweptPages
 mod OutputLists
+mod Purges
 mod Ending
 mod Collecting
 mod Completing
@@ -64,3 +69,5 @@ mod CollectionVerdicts
 mod StatCommand
 mod MarkScans
 mod MarkCommand
+mod WeakEntryLaws
+mod WeakCommands

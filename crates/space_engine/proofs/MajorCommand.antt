@@ -29,6 +29,7 @@ use Rattle.space_engine.specs.Turns.{CanAnswer, IsOneTurn}
 use Rattle.space_engine.specs.Views.{View, with_heap}
 use Rattle.space_engine.proofs.Collecting.{CompletesTo, completes_to, completion_spelled}
 use Rattle.space_engine.proofs.MajorStart.{marking_holds}
+use Rattle.space_engine.proofs.Purges.{completed_view}
 
 -- a marking that begins changes no count, and leaves a quiescent heap so
 module _ (idle : HeapView) (roots stack : List ℕ) (nothing : idle.phase ≡ Idle) where
@@ -89,7 +90,7 @@ module _ (idle : HeapView) (roots stack : List ℕ) (nothing : idle.phase ≡ Id
       }
 
 -- what was under way was completed, and then a marking began; the parts of the space between are those after the completion
-module _ (v mid parts : View) (same : parts ≡ mid) (rest : mid ≡ with_heap v mid.heap) (nothing : mid.heap.phase ≡ Idle) (able : CanAnswer v.heap)
+module _ (v mid parts : View) (same : parts ≡ mid) (rest : mid ≡ completed_view v mid.heap) (nothing : mid.heap.phase ≡ Idle) (able : CanAnswer v.heap)
     (after : HeapView) (starts : after ≡ started parts.heap (root_words parts.roots) parts.stack) where
   abbrev idle : HeapView
   idle = mid.heap
@@ -103,8 +104,11 @@ module _ (v mid parts : View) (same : parts ≡ mid) (rest : mid ≡ with_heap v
   begins : after ≡ started idle (root_words v.roots) v.stack
   begins = starts ∙ (λ i. started (same i).heap (root_words (roots_stay i)) (stack_stays i))
 
-  view_is : with_heap parts after ≡ with_heap v (started idle (root_words v.roots) v.stack)
-  view_is = λ i. record { heap = begins i; roots = roots_stay i; stack = stack_stays i }
+  view_is : with_heap parts after ≡ with_heap (completed_view v idle) (started idle (root_words v.roots) v.stack)
+  view_is =
+      let ids = ap (λ (w : View). w.ids) (same ∙ rest) in
+      let weak = ap (λ (w : View). w.weak) (same ∙ rest) in
+      λ i. record { heap = begins i; roots = roots_stay i; stack = stack_stays i; ids = ids i; weak = weak i }
 
   abbrev IsCompletion : ℕ → List Event → Type 0
   IsCompletion scans events = IsHeapCompletion v.heap idle (root_words v.roots) v.stack scans events
@@ -113,7 +117,7 @@ module _ (v mid parts : View) (same : parts ≡ mid) (rest : mid ≡ with_heap v
   lawful scans events c = record {
     answers = λ s h.
         let to : CompletesTo v s idle scans events = completes_to v s h able.collect.rests idle scans events c in
-        let marking = marking_holds (with_heap v idle) to.state to.holds nothing in
+        let marking = marking_holds (completed_view v idle) to.state to.holds nothing in
         record {
           state = marking_begun (mark_started to.state);
           represents = subst (λ (w : View). Represents w (marking_begun (mark_started to.state))) (sym view_is) marking.represents;

@@ -40,6 +40,7 @@ use Rattle.space_engine.specs.Views.{View, with_heap}
 use Rattle.space_engine.proofs.Outcomes.{some_same}
 use Rattle.space_engine.proofs.Reaching.{start_live, reached_from_live}
 use Rattle.space_engine.proofs.ResolvedRoots.{resolved_roots-same}
+use Rattle.space_engine.proofs.TablesKept.{ids_led, weak_led}
 use Rattle.space_engine.proofs.SameHeaps.{heap_same}
 
 -- the state in which a marking has begun is sound
@@ -209,6 +210,8 @@ module _ (v : View) (s : State) (h : Holds v s) (idle : v.heap.phase ≡ Idle) w
       colours = λ marking. colours_begun;
       roots = resolved_roots-same v.heap new resolved_stays v.roots ∙ h.represents.roots;
       stack = h.represents.stack;
+      ids = ids_led s.heap.place v.heap new resolved_stays s.tables.ids v.ids h.represents.ids;
+      weak = weak_led s.heap.place v.heap new resolved_stays s.tables.weak v.weak h.represents.weak;
     };
     sound = begun_sound s at_idle h.sound;
   }

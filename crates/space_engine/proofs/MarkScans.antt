@@ -37,6 +37,7 @@ use Rattle.space_engine.proofs.GenerationLists.{mixed_in-from}
 use Rattle.space_engine.proofs.GenerationNames.{young_child, aged_child, child_at, guard_at, old_at}
 use Rattle.space_engine.proofs.Reaching.{child_reached}
 use Rattle.space_engine.proofs.ResolvedRoots.{resolved_roots-same}
+use Rattle.space_engine.proofs.TablesKept.{ids_led, weak_led}
 use Rattle.space_engine.proofs.SameHeaps.{heap_same}
 use Rattle.space_engine.proofs.WholeVerdicts.{none_gone_in}
 
@@ -240,4 +241,6 @@ module _ (v : View) (s : State) (h : Holds v s) (at : v.heap.phase ≡ Marking) 
     };
     roots = resolved_roots-same v.heap z same.moves v.roots ∙ h.represents.roots;
     stack = h.represents.stack;
+    ids = ids_led s.heap.place v.heap z same.moves s.tables.ids v.ids h.represents.ids;
+    weak = weak_led s.heap.place v.heap z same.moves s.tables.weak v.weak h.represents.weak;
   }

@@ -34,7 +34,7 @@ use Rattle.space_engine.specs.Stands.{Represents, Holds}
 use Rattle.space_engine.specs.Steps.{AnswersWith}
 use Rattle.space_engine.specs.Ticks.{AreCompletionScans, IsMarkingTicked, IsTicked}
 use Rattle.space_engine.specs.Turns.{IsAtRest}
-use Rattle.space_engine.specs.Views.{View, with_heap}
+use Rattle.space_engine.specs.Views.{View, with_heap, with_judged}
 use Rattle.space_engine.specs.HeapCollections.{IsHeapCollection, IsTickedCollection, AreTold, AreCut, HasJudged}
 use Rattle.space_engine.proofs.Collecting.{CollectsTo, collects_to, collection_spelled}
 use Rattle.space_collector.specs.GoneNames.{gone_names}
@@ -43,7 +43,7 @@ use Rattle.space_collector.specs.Quiescent.{most_slots}
 use Rattle.space_engine.proofs.NewPlaces.{made_from, full_state, needs_page}
 use Rattle.space_engine.proofs.NewTurns.{born_swept}
 use Rattle.space_engine.proofs.Reading.{root_absent}
-use Rattle.space_engine.proofs.ReservedRoots.{heap_reserved, reserved_after, allocated_reserved, dropped_reserved, collection_reserved}
+use Rattle.space_engine.proofs.ReservedRoots.{heap_reserved, reserved_after, judged_reserved, allocated_at_once, dropped_reserved, collection_reserved}
 use Rattle.space_engine.proofs.SweptInNeed.{SweepsUntilFreeTo, until_free_holds, completes_in_vain}
 
 not_major : Full ≢ Major
@@ -154,6 +154,10 @@ module _ (root : List ℕ) (fields : ℕ) (guard : Guard) (style : Style) where
 
     module _ (w : View) (z : HeapView) (ended scans : ℕ) (events : List Event)
         (c : IsHeapCollection r.heap z Full (root_words r.roots) r.stack ended scans events) where
+      -- the place is there after the collection too
+      late_judged : IsReserved (with_judged x z) (with_judged r z) root is_new
+      late_judged = judged_reserved x r root is_new late_reserved z
+
       module _ (s : State) (h : Holds v s) where
         swept : SweepsUntilFreeTo v s r.heap pool
         swept = until_free_holds v s r.heap pool h (subst IsSoundHeap same_heap reserved.swept.was_sound) reserved.swept.sound
@@ -173,11 +177,11 @@ module _ (root : List ℕ) (fields : ℕ) (guard : Guard) (style : Style) where
         to = collects_to x limited swept.holds rests z Full not_major ended scans events its
 
         -- an object was allocated after it
-        late_made : (name a : ℕ) → IsRootedAllocation (with_heap r z) w root fields guard style name a →
+        late_made : (name a : ℕ) → IsRootedAllocation (with_judged r z) w root fields guard style name a →
             AnswersWith s w (New root fields guard style) events (Made name a)
         late_made name a allocated =
-            let m = made_from (with_heap v z) w to.state to.holds root fields guard style name a
-            (allocated_reserved x r root is_new late_reserved z w fields guard style name a allocated) in
+            let m = made_from (with_judged x z) w to.state to.holds root fields guard style name a
+            (allocated_at_once (with_judged x z) (with_judged r z) root is_new late_judged w fields guard style name a allocated) in
             let place = finds_late s limited to.state pool events scans limit to.collects m.ready a m.place in
             record {
               state = m.state;
@@ -196,13 +200,14 @@ module _ (root : List ℕ) (fields : ℕ) (guard : Guard) (style : Style) where
             }
 
         -- there was no room after it either
-        late_none : LacksRoom w.heap pool → IsGivenUp (with_heap r z) w root is_new pool → AnswersWith s w (New root fields guard style) events FullReply
+        late_none : LacksRoom w.heap pool → IsGivenUp (with_judged r z) w root is_new pool → AnswersWith s w (New root fields guard style) events FullReply
         late_none still given =
-            let end = until_free_holds (with_heap v z) to.state w.heap pool to.holds given.was_sound given.sound given.sweeps in
-            let full = full_state (with_heap v z) to.state w.heap pool end still in
+            let end = until_free_holds (with_judged x z) to.state w.heap pool to.holds given.was_sound given.sound given.sweeps in
+            let full = full_state (with_judged x z) to.state w.heap pool end still in
             record {
               state = end.state;
-              represents = subst (λ (w : View). Represents w end.state) (sym (given.becomes ∙ dropped_reserved x r root is_new late_reserved w.heap))
+              represents = subst (λ (w : View). Represents w end.state)
+                  (sym (given.becomes ∙ dropped_reserved (with_judged x z) (with_judged r z) root is_new late_judged w.heap))
                   end.holds.represents;
               effects = record {
                 reply = FullReply;
@@ -211,7 +216,7 @@ module _ (root : List ℕ) (fields : ℕ) (guard : Guard) (style : Style) where
               };
             }
 
-        late : (reply : Reply) → IsLastReply (with_heap r z) w root is_new fields guard style reply →
+        late : (reply : Reply) → IsLastReply (with_judged r z) w root is_new fields guard style reply →
             AnswersWith s w (New root fields guard style) events reply
         late (Made name a) last = late_made name a last
         late FullReply last = late_none last.0 last.1
@@ -222,7 +227,7 @@ module _ (root : List ℕ) (fields : ℕ) (guard : Guard) (style : Style) where
         late_ticked = after_sweeps limit.vain.pages s pool limited h.sound limit.vain.sweeps limit.vain.none_waits to.state events ended scans to.collects
             to.ended_are
 
-      lawful : (reply : Reply) → IsLastReply (with_heap r z) w root is_new fields guard style reply →
+      lawful : (reply : Reply) → IsLastReply (with_judged r z) w root is_new fields guard style reply →
           IsLawfulAnswer v w (New root fields guard style) events reply
       lawful reply last = record {
         answers = λ s h. late s h reply last;
@@ -238,7 +243,7 @@ module _ (root : List ℕ) (fields : ℕ) (guard : Guard) (style : Style) where
 
     pub answered_late : (w : View) (z : HeapView) (scans gone : ℕ) (reply : Reply) (before after : Option (List ℕ)) (ticks ticked : ℕ) →
         AreTold (IsTickedCollection r.heap z Full (root_words r.roots) r.stack scans ticks ticked) gone before after →
-        IsLastReply (with_heap r z) w root is_new fields guard style reply → IsAnswered v w (New root fields guard style) reply gone before after ticks ticked
+        IsLastReply (with_judged r z) w root is_new fields guard style reply → IsAnswered v w (New root fields guard style) reply gone before after ticks ticked
     answered_late w z scans gone reply before after ticks ticked told last =
         let ended = told.are.ended in
         let c = told.are.collects in
@@ -255,7 +260,7 @@ module _ (root : List ℕ) (fields : ℕ) (guard : Guard) (style : Style) where
         }
 
     -- the reply can be written
-    late_spelled : (w : View) (z : HeapView) (reply : Reply) → z.counters.born < 2 ^ 62 → IsLastReply (with_heap r z) w root is_new fields guard style reply →
+    late_spelled : (w : View) (z : HeapView) (reply : Reply) → z.counters.born < 2 ^ 62 → IsLastReply (with_judged r z) w root is_new fields guard style reply →
         IsSpelled (reply_pieces reply)
     late_spelled w z (Made name address) few last = (
       let is = last.allocation.named in
@@ -268,7 +273,7 @@ module _ (root : List ℕ) (fields : ℕ) (guard : Guard) (style : Style) where
 
     pub cut_off_late : (w : View) (z : HeapView) (reply : Reply) (before after : Option (List ℕ)) → HasJudged 1 2 most_slots r.heap z →
         AreCut (λ events. (ended scans : ℕ) × IsHeapCollection r.heap z Full (root_words r.roots) r.stack ended scans events) before after →
-        IsLastReply (with_heap r z) w root is_new fields guard style reply → IsCutOff v w (New root fields guard style) before after
+        IsLastReply (with_judged r z) w root is_new fields guard style reply → IsCutOff v w (New root fields guard style) before after
     cut_off_late w z reply before after judged cut last =
         let (ended, scans, c) = cut.are in
         record {

@@ -1,5 +1,5 @@
 -- What a view has after an object was allocated and a root holds it, in every phase.
-use Rattle.std.proofs.Common.{◌≡◌, ◌≢◌, ℕ, ◌+◌, cond, List, [], ◌∷◌, ◌++◌, length, length-append, true, true≢false, refl, ap, ◌∙◌, sym, subst, arith, nat_eq, Option, Some, ⊎_elim}
+use Rattle.std.proofs.Common.{◌≡◌, ◌≢◌, ℕ, ◌+◌, cond, List, [], ◌∷◌, ◌++◌, length, length-append, true, true≢false, refl, ap, ◌∙◌, sym, subst, arith, nat_eq, Option, None, Some, ⊎_elim}
 use Rattle.std.specs.Option.{unwrap_or}
 use Rattle.std.specs.Set.{is_member}
 use Rattle.std.specs.Ordering.{nat_cmp}
@@ -41,6 +41,7 @@ use Rattle.space_engine.proofs.GenerationsBorn.{generations_born}
 use Rattle.space_engine.proofs.GenerationsByName.{noted_more}
 use Rattle.space_engine.proofs.Outcomes.{some_same}
 use Rattle.space_engine.proofs.ResolvedRoots.{resolved_roots-same, with_root_word-resolved}
+use Rattle.space_engine.proofs.TablesKept.{ids_over, weak_over}
 use Rattle.space_engine.proofs.RootWords.{with_root_word-word_roots, word_roots-insert, value_word-insert}
 use Rattle.space_engine.proofs.StoredWords.{stored_words-nil}
 
@@ -179,6 +180,13 @@ module _ (v : View) (s : State) (h : Holds v s) (root : List ℕ) (fields : ℕ)
   no_root_holds : (n : ℕ) → is_member nat_eq (root_names s.roots) n ≡ true → n ≡ next → ⊥
   no_root_holds n m = let at = some_get (get s.heap.place n) (h.sound.names.roots_present n m) in not_next n at.0 at.1
 
+  -- what led to a name leads to it, and a name with an id that isn't present isn't the new one
+  stays_placed : (n address : ℕ) → get s.heap.place n ≡ Some (resolved v.heap address) → get place' n ≡ Some (resolved w address)
+  stays_placed n address e = get_old n (not_next n (resolved v.heap address) e) ∙ e ∙ ap Some (sym (leads_same address))
+
+  absent_placed : (n : ℕ) → is_member nat_eq s.tables.ids n ≡ true → get s.heap.place n ≡ None → get place' n ≡ None
+  absent_placed n m none = get_old n (λ same. let most = (h.sound.ids.allocated n m).1 in omega arith) ∙ none
+
   roots_placed : resolved_roots w (with_root_word v.roots root a) ≡ word_roots place' (with_root s.roots root (Name next))
   roots_placed =
       let word : resolved w a ≡ value_word place' (Name next) =
@@ -253,4 +261,6 @@ module _ (v : View) (s : State) (h : Holds v s) (root : List ℕ) (fields : ℕ)
     colours = colours_placed;
     roots = roots_placed;
     stack = h.represents.stack;
+    ids = ids_over s.heap.place place' v.heap w stays_placed s.tables.ids v.ids absent_placed h.represents.ids;
+    weak = weak_over s.heap.place place' v.heap w stays_placed s.tables.weak v.weak h.represents.weak;
   }

@@ -1,5 +1,6 @@
 -- A space before the first command.
-use Rattle.std.proofs.Common.{◌≢◌, ℕ, lit≤, true≢false, refl, sym, ◌∙◌}
+use Rattle.std.proofs.Common.{[], ◌≢◌, ℕ, lit≤, true≢false, refl, sym, ◌∙◌}
+use Rattle.std.specs.List.{IsDistinct}
 use Rattle.std.specs.Ordering.{nat_cmp}
 use Rattle.std.specs.FinMap.{get-empty}
 use Rattle.std.proofs.lemmas.Bool.{and_parts}
@@ -11,10 +12,16 @@ use Rattle.space_heap.specs.HeapView.{empty_heap}
 use Rattle.space_heap.proofs.FreeLaws.{is_moved-empty}
 use Rattle.space_heap.proofs.EmptyHeaps.{is_occupied-empty, is_object-empty}
 use Rattle.space_collector.proofs.QuiescentLaws.{white_where_none}
+use Rattle.space_weak.specs.WeakEntries.{AreApart}
 use Rattle.space_engine.specs.Stands.{Holds}
 use Rattle.space_engine.specs.Turns.{IsWithinTurns}
 use Rattle.space_engine.specs.Views.{empty_view}
 use Rattle.space_engine.proofs.Outcomes.{none_some}
+
+-- no entries are apart
+none_apart : AreApart []
+unfolding IsDistinct
+none_apart = tt
 
 pub opening_held : (limit : ℕ) → Holds (empty_view limit) (opening limit)
 opening_held limit = record {
@@ -58,6 +65,8 @@ opening_held limit = record {
     colours = λ marking. absurd (idle_marking marking);
     roots = refl;
     stack = refl;
+    ids = record { names = refl; kept = tt };
+    weak = record { apart = none_apart; values = λ map_name key. refl; at = λ map_name key entry found. absurd (cc) };
   };
   sound = Sound-opening limit;
 }

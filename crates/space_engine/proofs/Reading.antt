@@ -1,11 +1,11 @@
 -- What words and operands stand for, in the states that an engine holds.
-use Rattle.std.proofs.Common.{◌≡◌, ℕ, ◌+◌, ◌*◌, ◌<◌, ◌==◌, ◌%◌, ◌/◌, ◌^◌, ◌&&◌, nat_lt, List, [], ◌∷◌, nat_eq, true, false, refl, ap, sym, ◌∙◌, arith, Option, None, Some, Result, Ok, Err, ⊎_elim}
+use Rattle.std.proofs.Common.{◌≡◌, ℕ, ◌+◌, ◌*◌, ◌<◌, ◌==◌, ◌%◌, ◌/◌, ◌^◌, ◌&&◌, nat_lt, List, [], ◌∷◌, nat_eq, true, false, refl, ap, sym, ◌∙◌, subst, arith, Option, None, Some, Result, Ok, Err, ⊎_elim}
 use Rattle.std.specs.Prelude.{slice_get, reverse, is_some}
 use Rattle.std.specs.Option.{ok_or, option_map, unwrap_or}
 use Rattle.std.specs.Set.{is_member}
 use Rattle.std.specs.Ordering.{nat_cmp}
 use Rattle.std.specs.FinMap.{FinMap, get}
-use Rattle.std.proofs.lemmas.Bool.{eq-eqb, eqb-true, ne_eqb, or_left, true≢false, cases_Bool, and_parts}
+use Rattle.std.proofs.lemmas.Bool.{eq-eqb, eqb-true, ne_eqb, or_left, true≢false, false≢true, cases_Bool, and_parts}
 use Rattle.std.proofs.lemmas.Bool.Decides.{nat_tests}
 use Rattle.space_model.specs.declared.command.Operand.{Operand}
 use Rattle.space_model.specs.declared.command.Operand.TheVariants.{Root as RootOperand, Word}
@@ -20,7 +20,7 @@ use Rattle.space_model.specs.State.{State}
 use Rattle.space_model.specs.Words.{IsSmallWord}
 use Rattle.space_model.proofs.StackWords.{named_by-place, named_by-none, word_value-back}
 use Rattle.space_model.proofs.ReachedLaws.{member-names_at}
-use Rattle.space_model.proofs.ValuesKept.{present_kept, small_kept}
+use Rattle.space_model.proofs.ValuesKept.{IsPresentValue, placed_present, present_kept, small_kept}
 use Rattle.space_heap.specs.Objects.{is_object, object_of, resolved}
 use Rattle.space_roots.specs.WordRoots.{root_word}
 use Rattle.space_engine.specs.Stands.{Holds}
@@ -164,6 +164,28 @@ word_value-forth place word value e = ⊎_elim
     (λ (large : (nat_lt word (2 ^ 63) && (word % 2 == 1)) ≡ false).
     let is : word_value place word ≡ option_map Name (named_by place word) = rw (some, large) refl in
     named_word place word (named_by place word) value refl (sym is ∙ e))
+    (cases_Bool (nat_lt word (2 ^ 63) && (word % 2 == 1))))
+    (cases_Bool (word == 0))
+
+named_present : (place : FinMap nat_cmp ℕ) (word : ℕ) (found : Option ℕ) (value : Value) → named_by place word ≡ found → option_map Name found ≡ Some value →
+    IsPresentValue place value
+named_present place word None value e v = absurd (none_some value v)
+named_present place word (Some name) value e v =
+    subst (IsPresentValue place) (some_same (Name name) value v) (placed_present place name word (named_by-back place word name e))
+
+-- the value of a word is present
+pub word_present : (place : FinMap nat_cmp ℕ) (word : ℕ) (value : Value) → word_value place word ≡ Some value → IsPresentValue place value
+word_present place word value e = ⊎_elim
+    (λ (is_nil : (word == 0) ≡ true).
+    let is : word_value place word ≡ Some Nil = rw is_nil refl in
+    subst (IsPresentValue place) (some_same Nil value (sym is ∙ e)) (λ n m. absurd (false≢true m)))
+    (λ (some : (word == 0) ≡ false). ⊎_elim
+    (λ (is_small : (nat_lt word (2 ^ 63) && (word % 2 == 1)) ≡ true).
+    let is : word_value place word ≡ Some (Small (word / 2)) = rw (some, is_small) refl in
+    subst (IsPresentValue place) (some_same (Small (word / 2)) value (sym is ∙ e)) (λ n m. absurd (false≢true m)))
+    (λ (large : (nat_lt word (2 ^ 63) && (word % 2 == 1)) ≡ false).
+    let is : word_value place word ≡ option_map Name (named_by place word) = rw (some, large) refl in
+    named_present place word (named_by place word) value refl (sym is ∙ e))
     (cases_Bool (nat_lt word (2 ^ 63) && (word % 2 == 1))))
     (cases_Bool (word == 0))
 

@@ -21,11 +21,12 @@ use Rattle.space_roots.specs.WordRoots.{root_word, root_words}
 use Rattle.space_roots.proofs.RootLemmas.{with_root_word-reserved, without_root-reserved}
 use Rattle.space_engine.specs.Allocations.{IsReserved, IsReservedAndSwept, IsSwept, IsRootedAllocation}
 use Rattle.space_engine.specs.Stands.{Holds}
-use Rattle.space_engine.specs.Views.{View, with_heap, with_root_dropped, with_root_reserved, with_root_written}
+use Rattle.space_engine.specs.Views.{View, with_heap, with_judged, with_root_dropped, with_root_reserved, with_root_written}
 use Rattle.space_engine.specs.HeapCollections.{IsTelling, IsHeapCompletion, IsHeapCollection}
 use Rattle.space_engine.specs.Turns.{IsAtRest}
 use Rattle.space_engine.proofs.Collecting.{completes_to}
 use Rattle.space_engine.proofs.FieldWords.{nothing_at_zero}
+use Rattle.space_engine.proofs.Purges.{completed_view}
 
 module _ (v : View) (root : List ℕ) where
   written_again : (heap : HeapView) (is_new : Bool) (word : ℕ) → (IsTrue is_new → root_word v.roots root ≡ None) →
@@ -41,7 +42,7 @@ module _ (v : View) (root : List ℕ) where
 
 module _ (v r : View) (root : List ℕ) (is_new : Bool) (reserved : IsReserved v r root is_new) where
   -- the root holds a new object as it would have without
-  pub allocated_reserved : (z : HeapView) (w : View) (fields : ℕ) (guard : Guard) (style : Style) (name a : ℕ) →
+  allocated_reserved : (z : HeapView) (w : View) (fields : ℕ) (guard : Guard) (style : Style) (name a : ℕ) →
       IsRootedAllocation (with_heap r z) w root fields guard style name a → IsRootedAllocation (with_heap v z) w root fields guard style name a
   allocated_reserved z w fields guard style name a allocated = record {
     was_sound = allocated.was_sound;
@@ -58,6 +59,10 @@ module _ (v r : View) (root : List ℕ) (is_new : Bool) (reserved : IsReserved v
   dropped_reserved z =
       ap (λ (r : View). if is_new then with_root_dropped (with_heap r z) root else with_heap r z) reserved.becomes
       ∙ dropped_again v root z is_new reserved.absent
+
+  -- a verdict leaves the place, which has no part in ids and weak maps
+  pub judged_reserved : (z : HeapView) → IsReserved (with_judged v z) (with_judged r z) root is_new
+  judged_reserved z = record { becomes = ap (λ (u : View). with_judged u z) reserved.becomes; absent = reserved.absent }
 
   -- the heap is as it was
   pub heap_reserved : r.heap ≡ v.heap
@@ -199,7 +204,7 @@ module _ (v : View) (s : State) (h : Holds v s) (rests : IsAtRest v.heap) (z : H
   same_collection c =
       let completes = same_completion c.idle c.completion c.completes in
       let to = completes_to v s h rests c.idle ended c.completion completes in
-      let nothing = nothing_at_zero (with_heap v c.idle) to.state to.holds in
+      let nothing = nothing_at_zero (completed_view v c.idle) to.state to.holds in
       record {
         idle = c.idle;
         completion = c.completion;

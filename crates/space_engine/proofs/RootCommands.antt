@@ -1,15 +1,14 @@
 -- What the commands that write roots reply, and the states after them.
-use Rattle.std.proofs.Common.{◌≡◌, ℕ, List, true, false, true≢false, refl, ap, ◌∙◌, inl, inr, Option, None, Some, Result, Ok, Err}
+use Rattle.std.proofs.Common.{◌≡◌, ◌≢◌, ℕ, ◌+◌, List, true, false, true≢false, refl, sym, ap, ◌∙◌, inl, inr, Option, None, Some, Result, Ok, Err}
 use Rattle.std.specs.Prelude.{is_some}
-use Rattle.std.specs.Option.{unwrap_or}
 use Rattle.space_model.specs.declared.command.Command.TheVariants.{Set, DropRoot, Load}
 use Rattle.space_model.specs.declared.command.Input.{Input}
 use Rattle.space_model.specs.declared.command.Operand.{Operand}
 use Rattle.space_model.specs.declared.reply.Refusal.{Refusal}
 use Rattle.space_model.specs.declared.reply.Refusal.TheVariants.{NoRoot}
+use Rattle.space_model.specs.declared.reply.Reply.{Reply}
 use Rattle.space_model.specs.declared.reply.Reply.TheVariants.{NoMemory, Done, Read, Refused}
 use Rattle.space_model.specs.declared.value.Value.{Value}
-use Rattle.space_model.specs.declared.value.Value.TheVariants.{Nil}
 use Rattle.space_model.specs.RootCommands.{field_value}
 use Rattle.space_model.specs.CommandTexts.{IsWritableInput}
 use Rattle.space_model.specs.Moments.{noted}
@@ -23,17 +22,24 @@ use Rattle.space_model.proofs.ValuesKept.{IsPresentValue, present_kept, small_ke
 use Rattle.space_roots.specs.WordRoots.{root_word}
 use Rattle.space_roots.proofs.RootLemmas.{without_root-absent}
 use Rattle.space_engine.specs.Stands.{Holds}
-use Rattle.space_engine.specs.Steps.{Answers}
+use Rattle.space_engine.specs.Steps.{Answers, HandsOut}
+use Rattle.space_engine.specs.Ticks.{IsReplyTicked}
 use Rattle.space_engine.specs.Views.{View, with_root_written, with_root_dropped}
 use Rattle.space_engine.specs.Words.{word_result}
 use Rattle.space_engine.proofs.Changes.{after_root_written, after_root_dropped}
 use Rattle.space_engine.proofs.Outcomes.{ok_same}
-use Rattle.space_engine.proofs.Reading.{root_absent, root_there}
+use Rattle.space_engine.proofs.Reading.{root_absent, root_there, word_value-forth, word_present}
 use Rattle.space_engine.proofs.WordResults.{refused_value}
 
 none_where : (found : Option ℕ) → is_some found ≡ false → found ≡ None
 none_where None e = refl
 none_where (Some word) e = absurd (true≢false e)
+
+-- where a field was read the reply is no refusal, and the ledger's count rose by one
+pub loaded_ticked : (root : List ℕ) (object : Operand) (index : ℕ) (reply : Reply) (before after : ℕ) → ((why : Refusal) → reply ≢ Refused why) →
+    after ≡ before + 1 → IsReplyTicked (Load root object index) reply before after
+loaded_ticked root object index (Refused why) before after accepted e = absurd (accepted why refl)
+loaded_ticked root object index _ before after accepted e = e
 
 module _ (v : View) (s : State) (h : Holds v s) where
   -- `set`
@@ -90,42 +96,42 @@ module _ (v : View) (s : State) (h : Holds v s) where
         replies = rw (root_absent v s h root none) (record { reply_is = refl; unchanged = refl });
       }
 
+  -- a root gets a word, and its value is told
+
+  pub handed_out : (root : List ℕ) (word : ℕ) (value : Value) → word_value s.heap.place word ≡ Some value →
+      HandsOut s (with_root_written v root word) root value (Read value)
+  handed_out root word value e = record {
+    state = noted (root_written s root value);
+    represents = after_root_written v s h root value word (sym (word_value-forth s.heap.place word value e)) (word_present s.heap.place word value e);
+    writes = inl (refl, refl);
+  }
+
+  pub not_handed_out : (root : List ℕ) (value : Value) → root_word v.roots root ≡ None → HandsOut s v root value NoMemory
+  not_handed_out root value none = record {
+    state = s;
+    represents = h.represents;
+    writes = inr (refl, root_absent v s h root none, refl);
+  }
+
   -- `load`
 
-  load_value : (root : List ℕ) (object : Operand) (index word : ℕ) (told : Option Value) (found : Result Value Refusal) →
-      field_value s.graph (operand_value s object) index ≡ found → Ok word ≡ word_result s.heap.place found → told ≡ word_value s.heap.place word →
-      Answers s (with_root_written v root word) (Load root object index) (Read (unwrap_or told Nil))
-  load_value root object index word told (Ok value) e w t =
+  load_value : (new : View) (root : List ℕ) (object : Operand) (index word : ℕ) (reply : Reply) (found : Result Value Refusal) →
+      field_value s.graph (operand_value s object) index ≡ found → Ok word ≡ word_result s.heap.place found →
+      ((value : Value) → word_value s.heap.place word ≡ Some value → HandsOut s new root value reply) → Answers s new (Load root object index) reply
+  load_value new root object index word reply (Ok value) e w hands =
       let word_is : word ≡ value_word s.heap.place value = ok_same word (value_word s.heap.place value) w in
       let present : IsPresentValue s.heap.place value = read_holds s (IsPresentValue s.heap.place) (present_kept s h.sound) object index value e in
       let small : IsSmall value = read_holds s IsSmall (small_kept s h.sound) object index value e in
-      let read : told ≡ Some value = t ∙ ap (word_value s.heap.place) word_is ∙ word_value-back s value h.sound present small in
-      record {
-        state = noted (root_written s root value);
-        represents = after_root_written v s h root value word word_is present;
-        replies = rw e (inl (ap (λ (o : Option Value). Read (unwrap_or o Nil)) read, refl));
-      }
-  load_value root object index word told (Err why) e w t = absurd (cc)
+      let out = hands value (ap (word_value s.heap.place) word_is ∙ word_value-back s value h.sound present small) in
+      record { state = out.state; represents = out.represents; replies = rw e out.writes }
+  load_value new root object index word reply (Err why) e w hands = absurd (cc)
 
-  pub load_done : (root : List ℕ) (object : Operand) (index word : ℕ) (told : Option Value) →
-      Ok word ≡ word_result s.heap.place (field_value s.graph (operand_value s object) index) → told ≡ word_value s.heap.place word →
-      Answers s (with_root_written v root word) (Load root object index) (Read (unwrap_or told Nil))
-  load_done root object index word told w t = load_value root object index word told (field_value s.graph (operand_value s object) index) refl w t
-
-  unload_value : (root : List ℕ) (object : Operand) (index word : ℕ) (found : Result Value Refusal) →
-      field_value s.graph (operand_value s object) index ≡ found → Ok word ≡ word_result s.heap.place found → root_word v.roots root ≡ None →
-      Answers s v (Load root object index) NoMemory
-  unload_value root object index word (Ok value) e w none = record {
-    state = s;
-    represents = h.represents;
-    replies = rw e (inr (refl, root_absent v s h root none, refl));
-  }
-  unload_value root object index word (Err why) e w none = absurd (cc)
-
-  pub load_unwritten : (root : List ℕ) (object : Operand) (index word : ℕ) →
-      Ok word ≡ word_result s.heap.place (field_value s.graph (operand_value s object) index) → root_word v.roots root ≡ None →
-      Answers s v (Load root object index) NoMemory
-  load_unwritten root object index word w none = unload_value root object index word (field_value s.graph (operand_value s object) index) refl w none
+  -- the word of the field is handed out
+  pub loaded : (new : View) (root : List ℕ) (object : Operand) (index word : ℕ) (reply : Reply) →
+      Ok word ≡ word_result s.heap.place (field_value s.graph (operand_value s object) index) →
+      ((value : Value) → word_value s.heap.place word ≡ Some value → HandsOut s new root value reply) → Answers s new (Load root object index) reply
+  loaded new root object index word reply w hands =
+      load_value new root object index word reply (field_value s.graph (operand_value s object) index) refl w hands
 
   pub load_refused : (root : List ℕ) (object : Operand) (index : ℕ) (why : Refusal) →
       Err why ≡ word_result s.heap.place (field_value s.graph (operand_value s object) index) → Answers s v (Load root object index) (Refused why)

@@ -8,7 +8,7 @@ use Rattle.space_model.specs.declared.command.Command.{Command}
 use Rattle.space_model.specs.declared.command.Command.TheVariants.{New, Minor, Gc, Major, Finish}
 use Rattle.space_model.specs.declared.event.Event.{Event}
 use Rattle.space_model.specs.declared.reply.Reply.{Reply}
-use Rattle.space_model.specs.declared.reply.Reply.TheVariants.{Made, Full, NoMemory, Done, Pushed, Read, Truth, Scanned, Marked, SweepCount, StatLine, Refused}
+use Rattle.space_model.specs.declared.reply.Reply.TheVariants.{Made, Full, NoMemory, Done, Pushed, Read, Truth, Number, GoneId, Scanned, Marked, SweepCount, StatLine, Refused}
 use Rattle.space_model.specs.Lawful.{Lawful}
 use Rattle.space_model.specs.Outputs.{Output, Told, Replied}
 use Rattle.space_model.specs.Given.{IsGiven}
@@ -66,6 +66,8 @@ counts_of_one Done = refl
 counts_of_one (Pushed word names) = refl
 counts_of_one (Read value) = refl
 counts_of_one (Truth told) = refl
+counts_of_one (Number number) = refl
+counts_of_one GoneId = refl
 counts_of_one (Scanned count) = refl
 counts_of_one (Marked scans grey) = refl
 counts_of_one (SweepCount freed left) = refl

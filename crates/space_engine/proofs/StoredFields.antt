@@ -19,6 +19,7 @@ use Rattle.space_engine.proofs.ColoursStored.{colours_raw, colours_stored}
 use Rattle.space_engine.proofs.FieldChanges.{heap_after_write}
 use Rattle.space_engine.proofs.GenerationsStored.{generations_raw, generations_stored}
 use Rattle.space_engine.proofs.ResolvedRoots.{resolved_roots-same}
+use Rattle.space_engine.proofs.TablesKept.{ids_led, weak_led}
 
 module _ (v : View) (s : State) (h : Holds v s) (name address index : ℕ) (value : Value) (at : get s.heap.place name ≡ Some address) where
   abbrev word : ℕ
@@ -35,6 +36,8 @@ module _ (v : View) (s : State) (h : Holds v s) (name address index : ℕ) (valu
     colours = colours_raw v s h name address index value at free;
     roots = resolved_roots-same v.heap w (resolved-with_object v.heap address _) v.roots ∙ h.represents.roots;
     stack = h.represents.stack;
+    ids = ids_led s.heap.place v.heap w (resolved-with_object v.heap address _) s.tables.ids v.ids h.represents.ids;
+    weak = weak_led s.heap.place v.heap w (resolved-with_object v.heap address _) s.tables.weak v.weak h.represents.weak;
   }
 
   -- a field of any object holds it, by the rules of the write barrier
@@ -51,4 +54,6 @@ module _ (v : View) (s : State) (h : Holds v s) (name address index : ℕ) (valu
         colours = colours_stored v s h name address index value at present reached;
         roots = resolved_roots-same v.heap z (λ a. barrier.same.moves a ∙ resolved-with_object v.heap address _ a) v.roots ∙ h.represents.roots;
         stack = h.represents.stack;
+        ids = ids_led s.heap.place v.heap z (λ a. barrier.same.moves a ∙ resolved-with_object v.heap address _ a) s.tables.ids v.ids h.represents.ids;
+        weak = weak_led s.heap.place v.heap z (λ a. barrier.same.moves a ∙ resolved-with_object v.heap address _ a) s.tables.weak v.weak h.represents.weak;
       }

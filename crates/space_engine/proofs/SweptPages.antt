@@ -42,6 +42,7 @@ use Rattle.space_engine.proofs.GenerationsByName.{generations_same}
 use Rattle.space_engine.proofs.Outcomes.{some_same}
 use Rattle.space_engine.proofs.Reaching.{member_map, member_unmap}
 use Rattle.space_engine.proofs.ResolvedRoots.{resolved_roots-same}
+use Rattle.space_engine.proofs.TablesKept.{ids_led, weak_led}
 use Rattle.space_engine.proofs.Resolving.{none_moved}
 
 phase_same : (others : List ℕ) (phase : Phase) → phase ≡ Sweeping → phase_left others phase ≡ sweep_phase others
@@ -255,6 +256,8 @@ module _ (v : View) (s : State) (h : Holds v s) (sound : IsSoundHeap v.heap) (z 
     colours = λ e. absurd (sweeps_mark_none step.others e);
     roots = resolved_roots-same heap z (resolved-first heap z freed step) v.roots ∙ h.represents.roots;
     stack = h.represents.stack;
+    ids = ids_led s.heap.place heap z (resolved-first heap z freed step) s.tables.ids v.ids h.represents.ids;
+    weak = weak_led s.heap.place heap z (resolved-first heap z freed step) s.tables.weak v.weak h.represents.weak;
   }
 
   pub swept_holds : Holds (with_heap v z) t

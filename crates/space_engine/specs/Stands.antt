@@ -1,5 +1,6 @@
 -- Which states a space stands for, in every phase: also while pages wait for a sweep, and while objects move.
-use Rattle.std.specs.Prelude.{◌≡◌, ◌≢◌, ℕ, true, false, List, [], length, Option, Some}
+use Rattle.std.specs.Prelude.{◌≡◌, ◌≢◌, ℕ, true, false, List, [], ◌∷◌, length, Option, None, Some}
+use Rattle.std.specs.Option.{option_map}
 use Rattle.std.specs.FinMap.{FinMap, get}
 use Rattle.std.specs.Ordering.{nat_cmp}
 use Rattle.space_model.specs.declared.phase.Phase.{Phase}
@@ -7,11 +8,14 @@ use Rattle.space_model.specs.declared.phase.Phase.TheVariants.{Marking}
 use Rattle.space_model.specs.Graph.{Item, item_of}
 use Rattle.space_model.specs.Pages.{pool_at as pool_of_page}
 use Rattle.space_model.specs.Sound.{Sound}
-use Rattle.space_model.specs.State.{Heap, Collector, Counters, State}
+use Rattle.space_model.specs.State.{Heap, Collector, Counters, WeakEntry, State}
 use Rattle.space_heap.specs.Slots.{ObjectView}
 use Rattle.space_heap.specs.HeapView.{HeapView, Counters as HeapCounters, pool_at}
 use Rattle.space_heap.specs.Objects.{is_occupied, is_object, object_of, is_moved, resolved}
 use Rattle.space_model.specs.StoredWords.{stored_words}
+use Rattle.space_model.specs.WeakMaps.{weak_value}
+use Rattle.space_ids.specs.GivenIds.{GivenIds, names_in}
+use Rattle.space_weak.specs.WeakEntries.{Entry, entry_of, AreApart}
 use Rattle.space_engine.specs.Generations.{HasGenerations}
 use Rattle.space_engine.specs.Colours.{HasColours}
 use Rattle.space_engine.specs.Views.{View, SpaceView}
@@ -74,6 +78,32 @@ pub record HeapRepresents (graph : List Item) (own : Heap) (collector : Collecto
   pub progress : HasProgress collector.phase collector.cursor heap
   pub counted : HasCounted (length graph) counters heap.counters
 
+-- what is kept of a name with an id: the address at which it stands, once that is resolved, and none where it isn't present
+abbrev pub IsKeptOf : FinMap nat_cmp ℕ → HeapView → ℕ × Option ℕ → Type 0
+IsKeptOf place heap (name, None) = get place name ≡ None
+IsKeptOf place heap (name, Some address) = get place name ≡ Some (resolved heap address)
+
+-- the same of each name
+abbrev pub AreKept : FinMap nat_cmp ℕ → HeapView → GivenIds → Type 0
+AreKept place heap [] = Unit {0}
+AreKept place heap (entry ∷ ids) = IsKeptOf place heap entry × AreKept place heap ids
+
+-- the ids are those of the state's names, in their order
+pub record HasIds (place : FinMap nat_cmp ℕ) (ids : List ℕ) (given : GivenIds) (heap : HeapView) : Type 0 where
+  pub names : names_in given ≡ ids
+  pub kept : AreKept place heap given
+
+-- the key and the value of an entry stand at the addresses that are kept of them, once these are resolved
+pub record IsEntryAt (place : FinMap nat_cmp ℕ) (heap : HeapView) (entry : Entry) : Type 0 where
+  pub key : get place entry.key_name ≡ Some (resolved heap entry.key_address)
+  pub value : get place entry.value_name ≡ Some (resolved heap entry.value_address)
+
+-- each key has the value in each weak map that it has in the state; the order of entries means nothing
+pub record HasWeakEntries (place : FinMap nat_cmp ℕ) (weak : List WeakEntry) (entries : List Entry) (heap : HeapView) : Type 0 where
+  pub apart : AreApart entries
+  pub values : (map_name : List ℕ) (key : ℕ) → weak_value weak map_name key ≡ option_map (λ entry. entry.value_name) (entry_of entries map_name key)
+  pub at : (map_name : List ℕ) (key : ℕ) (entry : Entry) → entry_of entries map_name key ≡ Some entry → IsEntryAt place heap entry
+
 -- the view has what the state has: the words of roots are those of their values, once they are resolved, and the stack's are the same
 pub record Represents (v : View) (s : State) : Type 0 where
   pub heap : HeapRepresents s.graph s.heap s.collector s.counters v.heap
@@ -81,6 +111,8 @@ pub record Represents (v : View) (s : State) : Type 0 where
   pub colours : HasColours s.graph s.heap.place s.history s.collector.phase v.heap
   pub roots : resolved_roots v.heap v.roots ≡ word_roots s.heap.place s.roots
   pub stack : s.stack ≡ v.stack
+  pub ids : HasIds s.heap.place s.tables.ids v.ids v.heap
+  pub weak : HasWeakEntries s.heap.place s.tables.weak v.weak v.heap
 
 -- the view has what a sound state has
 pub record Holds (v : View) (s : State) : Type 0 where

@@ -5,6 +5,9 @@ use Rattle.space_model.specs.declared.command.Command.{Command}
 use Rattle.space_model.specs.declared.command.Command.TheVariants.{New, Minor, Gc, Major, Finish}
 use Rattle.space_model.specs.declared.event.Event.{Event}
 use Rattle.space_model.specs.declared.reply.Reply.{Reply}
+use Rattle.space_model.specs.declared.reply.Reply.TheVariants.{Read}
+use Rattle.space_model.specs.declared.value.Value.{Value}
+use Rattle.space_model.specs.RootCommands.{WritesRoot}
 use Rattle.space_model.specs.Lawful.{Effects, Lawful, Replies}
 use Rattle.space_model.specs.Outputs.{Output, Replied}
 use Rattle.space_model.specs.State.{State}
@@ -29,6 +32,12 @@ pub record Answers (s : State) (new : View) (command : Command) (reply : Reply) 
   pub state : State
   pub represents : Represents new state
   pub replies : Replies s command reply state
+
+-- the root holds the value, which the reply tells, or there is no memory for a new root; and the view has what the state after it has
+pub record HandsOut (s : State) (new : View) (root : List ℕ) (value : Value) (reply : Reply) : Type 0 where
+  pub state : State
+  pub represents : Represents new state
+  pub writes : WritesRoot s root value (Read value) reply state
 
 -- the events and the reply are lawful, and the view has what the state after them has
 pub record AnswersWith (s : State) (new : View) (command : Command) (events : List Event) (reply : Reply) : Type 0 where

@@ -1,9 +1,11 @@
--- A space as its heap, its roots and its stack; and how many commands it was given.
+-- A space as its heap, its roots, its stack, its object ids and its weak maps; and how many commands it was given.
 use Rattle.std.specs.Prelude.{ℕ, Bool, false, List, [], ◌∷◌, ◌++◌, if◌then◌else◌}
 use Rattle.space_heap.specs.HeapView.{HeapView, empty_heap}
 use Rattle.space_heap.specs.Objects.{written}
-use Rattle.space_barrier.specs.Barrier.{stored, unprotected}
+use Rattle.space_barrier.specs.Barrier.{is_marking, stored, unprotected}
 use Rattle.space_roots.specs.WordRoots.{with_root_word, without_root}
+use Rattle.space_ids.specs.GivenIds.{GivenIds, with_id, purged as purged_ids}
+use Rattle.space_weak.specs.WeakEntries.{Entry, purged as purged_entries}
 
 -- the parts of a space
 pub record View : Type 0 where
@@ -12,12 +14,16 @@ pub record View : Type 0 where
   pub roots : List (List ℕ × ℕ)
   -- the words of the stack, from the bottom to the top
   pub stack : List ℕ
+  -- the names with an id, and the addresses that are kept of their objects
+  pub ids : GivenIds
+  -- the entries of weak maps, with the addresses that are kept of their objects
+  pub weak : List Entry
 
 -- nothing is there yet
 abbrev pub empty_view : ℕ → View
-empty_view limit = record { heap = empty_heap limit; roots = []; stack = [] }
+empty_view limit = record { heap = empty_heap limit; roots = []; stack = []; ids = []; weak = [] }
 
--- the heap is this one; roots and stack stay
+-- the heap is this one; all else stays
 abbrev pub with_heap : View → HeapView → View
 with_heap v heap = record v { heap = heap }
 
@@ -36,6 +42,22 @@ with_root_dropped v root = record v { roots = without_root v.roots root }
 -- the stack has these words
 abbrev pub with_stack : View → List ℕ → View
 with_stack v words = record v { stack = words }
+
+-- the name, whose object stands at this address, has an id
+abbrev pub with_given_id : View → ℕ → ℕ → View
+with_given_id v name address = record v { ids = with_id v.ids name address }
+
+-- the weak maps have these entries
+abbrev pub with_weak : View → List Entry → View
+with_weak v entries = record v { weak = entries }
+
+-- the heap is this one, in which a verdict left objects gone: of their ids no address is kept any more, and no weak map has an entry of them
+abbrev pub with_judged : View → HeapView → View
+with_judged v heap = record v { heap = heap; ids = purged_ids heap v.ids; weak = purged_entries heap v.weak }
+
+-- the heap is this one, in which what was under way was completed: in a marking by a verdict
+abbrev pub with_completed : View → HeapView → View
+with_completed v heap = if is_marking v.heap.phase then with_judged v heap else with_heap v heap
 
 -- a field of the object at this address got the word, by the write barrier's rules
 abbrev pub with_field : View → ℕ → ℕ → ℕ → View

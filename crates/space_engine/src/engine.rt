@@ -11,6 +11,7 @@ ghost use Rattle.space_engine.specs.Views.{empty_view};
 
 mod collection_commands;
 mod completion;
+mod id_commands;
 mod marking_commands;
 mod new_command;
 mod object_commands;
@@ -19,11 +20,14 @@ mod replies;
 mod root_commands;
 mod stack_commands;
 mod sweep_commands;
+mod weak_commands;
 
 use space_heap::Heap;
+use space_ids::Ids;
 use space_io::{Sink, WriteFault};
 use space_model::{Command, Kind, Ledger, Phase, Reply, Steps};
 use space_roots::{Roots, Stack};
+use space_weak::WeakMaps;
 use std::alloc::{AllocError as NoMemory, Global};
 use std::marker::Model;
 
@@ -43,12 +47,14 @@ fn silent(reply: Reply) -> Answer
     Answer { reply, gone: 0 }
 }
 
-/// The objects in their slots, and what roots and the stack hold.
+/// The objects in their slots, what roots and the stack hold, object ids and weak maps.
 #[derive(Drop)]
 pub struct Engine {
     heap: Heap,
     roots: Roots,
     stack: Stack,
+    ids: Ids,
+    weak: WeakMaps,
 }
 
 impl Model for Engine {
@@ -73,6 +79,8 @@ impl Engine {
             heap: Heap::new(alloc, limit)?,
             roots: Roots::new(alloc),
             stack: Stack::new(alloc),
+            ids: Ids::new(alloc),
+            weak: WeakMaps::new(alloc),
         })
     }
 

@@ -16,7 +16,8 @@ fn rank(why: Refusal) -> u8
         Refusal::NotObject => 3,
         Refusal::NoField => 4,
         Refusal::Protected => 5,
-        Refusal::NotMarking => 6,
+        Refusal::NoId => 6,
+        Refusal::NotMarking => 7,
     }
 }
 

@@ -1,1 +1,2 @@
 pub mod IdsLemmas
+pub mod ModelIds

@@ -8,6 +8,7 @@ use Rattle.space_model.specs.Sound.{Sound, SoundLayout, SoundCorpses, SoundSweep
 use Rattle.space_model.specs.State.{State, Heap, Collector}
 use Rattle.space_model.proofs.MarkingKept.{IsMarkingSound, SoundMarking-noted}
 use Rattle.space_model.proofs.NotedLaws.{SoundMoments-noted}
+use Rattle.space_model.proofs.TablesKept.{SoundTables}
 
 -- what is asked of where objects stand, and of what the collector is at
 pub record SoundHeap (graph : List Item) (heap : Heap) (collector : Collector) : Type 0 where
@@ -28,6 +29,7 @@ pub record SoundParts (s : State) : Type 0 where
   pub names : SoundNames s.graph s.roots s.heap.place
   pub items : AreSoundItems s.graph
   pub roots : AreSoundRoots s.roots
+  pub tables : SoundTables s.graph s.heap.place s.tables
   pub once : IsDistinct nat_eq s.history.seen
   pub marking : s.collector.phase ≡ Marking → IsMarkingSound s
 
@@ -45,10 +47,13 @@ heap_of s h = record {
   outlived = h.outlived;
 }
 
+pub tables_of : (s : State) → Sound s → SoundTables s.graph s.heap.place s.tables
+tables_of s h = record { ids = h.ids; weak = h.weak }
+
 -- a state is sound where its parts are
 pub sound_of : (s : State) → SoundHeap s.graph s.heap s.collector → SoundNames s.graph s.roots s.heap.place → AreSoundItems s.graph →
-    AreSoundRoots s.roots → SoundMoments s → (s.collector.phase ≡ Marking → IsMarkingSound s) → Sound s
-sound_of s heap names items roots moments marking = record {
+    AreSoundRoots s.roots → SoundTables s.graph s.heap.place s.tables → SoundMoments s → (s.collector.phase ≡ Marking → IsMarkingSound s) → Sound s
+sound_of s heap names items roots tables moments marking = record {
   layout = heap.layout;
   corpses = heap.corpses;
   sweep = heap.sweep;
@@ -60,6 +65,8 @@ sound_of s heap names items roots moments marking = record {
   names = names;
   items = items;
   roots = roots;
+  ids = tables.ids;
+  weak = tables.weak;
   kept = heap.kept;
   outlived = heap.outlived;
   moments = moments;
@@ -68,4 +75,4 @@ sound_of s heap names items roots moments marking = record {
 
 pub after_piece : (u t : State) → t ≡ noted u → SoundParts u → Sound t
 after_piece u t e h = subst Sound (sym e)
-    (sound_of (noted u) h.heap h.names h.items h.roots (SoundMoments-noted u h.once) (λ e. SoundMarking-noted u h.names (h.marking e)))
+    (sound_of (noted u) h.heap h.names h.items h.roots h.tables (SoundMoments-noted u h.once) (λ e. SoundMarking-noted u h.names (h.marking e)))

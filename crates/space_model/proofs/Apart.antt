@@ -5,8 +5,8 @@ use Rattle.std.specs.Str.{bytes_eq}
 use Rattle.space_model.specs.declared.value.Value.TheVariants.{Nil, Small, Name}
 use Rattle.space_model.specs.declared.event.Event.TheVariants.{Gone, Verdict}
 use Rattle.space_model.specs.declared.event.Kind.TheVariants.{Minor, Major, Full as FullKind}
-use Rattle.space_model.specs.declared.reply.Refusal.TheVariants.{TooLarge, NoRoot, NoWord, NotObject, NoField, Protected, NotMarking}
-use Rattle.space_model.specs.declared.reply.Reply.TheVariants.{Made, Full, NoMemory, Done, Pushed, Read, Truth, Scanned, Marked, SweepCount, StatLine, Refused}
+use Rattle.space_model.specs.declared.reply.Refusal.TheVariants.{TooLarge, NoRoot, NoWord, NotObject, NoField, Protected, NoId, NotMarking}
+use Rattle.space_model.specs.declared.reply.Reply.TheVariants.{Made, Full, NoMemory, Done, Pushed, Read, Truth, Number, GoneId, Scanned, Marked, SweepCount, StatLine, Refused}
 use Rattle.space_model.specs.declared.stat.Stat.{Stat}
 use Rattle.space_model.specs.Outputs.{Output, Told, Replied}
 use Rattle.space_model.specs.Lines.{lines_of}
@@ -58,9 +58,10 @@ forms n =
     ∷ Replied (Pushed (n 0) None) ∷ Replied (Pushed (n 0) (Some (n 1)))
     ∷ Replied (Read Nil) ∷ Replied (Read (Small (n 0))) ∷ Replied (Read (Name (n 0)))
     ∷ Replied (Truth true) ∷ Replied (Truth false)
+    ∷ Replied (Number (n 0)) ∷ Replied GoneId
     ∷ Replied (Scanned (n 0)) ∷ Replied (Marked (n 0) (n 1)) ∷ Replied (SweepCount (n 0) (n 1)) ∷ Replied (StatLine (stat_of n))
     ∷ Replied (Refused TooLarge) ∷ Replied (Refused NoRoot) ∷ Replied (Refused NoWord) ∷ Replied (Refused NotObject) ∷ Replied (Refused NoField)
-    ∷ Replied (Refused Protected) ∷ Replied (Refused NotMarking) ∷ []
+    ∷ Replied (Refused Protected) ∷ Replied (Refused NoId) ∷ Replied (Refused NotMarking) ∷ []
 
 abbrev pub pick : List Output → List Token → Option Output
 pick [] ts = None

@@ -16,7 +16,7 @@ use Rattle.space_model.specs.Reach.{IsStart}
 use Rattle.space_model.specs.Sound.{Sound, SoundMoments, SoundNames, SoundCorpses, SoundSweep, SoundUsed}
 use Rattle.space_model.specs.State.{State}
 use Rattle.space_model.specs.Verdicts.{IsVerdict}
-use Rattle.space_model.proofs.AfterPieces.{SoundHeap, heap_of, sound_of, after_piece}
+use Rattle.space_model.proofs.AfterPieces.{SoundHeap, heap_of, tables_of, sound_of, after_piece}
 use Rattle.space_model.proofs.AgeLaws.{aged-length}
 use Rattle.space_model.proofs.CorpsesKept.{placed_swept, SoundCorpses-took, SoundCorpses-swept}
 use Rattle.space_model.proofs.KeptNames.{SoundKept-verdict}
@@ -28,13 +28,14 @@ use Rattle.space_model.proofs.ReachedLaws.{member-reached_names, reached_names-o
 use Rattle.space_model.proofs.Reaching.{IsReached-start}
 use Rattle.space_model.proofs.SlotLaws.{AreSlots-part}
 use Rattle.space_model.proofs.SweepKept.{sweeping, SoundSweep-took, SoundSweep-swept, SoundUsed-took, SoundUsed-swept}
+use Rattle.space_model.proofs.TablesKept.{AreSoundEntries-left}
 
 -- what the start of a marking notes is what there is
 pub SoundMoments-started : (s : State) → SoundMoments (mark_started s)
 SoundMoments-started s = record { seen = λ n r. (member-reached_names s n).1 r; once = reached_names-once s; mixed = λ n m. m }
 
 pub Sound-mark_started : (s : State) → Sound s → Sound (mark_started s)
-Sound-mark_started s h = sound_of (mark_started s) (heap_of s h) h.names h.items h.roots (SoundMoments-started s)
+Sound-mark_started s h = sound_of (mark_started s) (heap_of s h) h.names h.items h.roots (tables_of s h) (SoundMoments-started s)
     (λ e. SoundMarking-started s s.collector.vague (h.marking e).open_kept h.names)
 
 pub Sound-start : (s t : State) → StartMark s t → Sound s → Sound t
@@ -78,6 +79,7 @@ Sound-took s t kind taken a b v e h = after_piece (took s kind taken) t e (recor
   names = SoundNames-took s kind taken v h.names;
   items = h.items;
   roots = h.roots;
+  tables = record { ids = h.ids; weak = AreSoundEntries-left s.heap.place taken s.tables.weak h.weak };
   once = h.moments.once;
   marking = λ e. absurd (sweeps_mark_none (pool_pages s.heap.pages) e);
 })
@@ -114,6 +116,7 @@ Sound-swept s t freed p h =
       names = h.names;
       items = h.items;
       roots = h.roots;
+      tables = tables_of s h;
       once = h.moments.once;
       marking = λ e. absurd (sweeps_mark_none p.others e);
     })

@@ -14,16 +14,19 @@ use Rattle.space_model.specs.Maps.{without}
 use Rattle.space_model.specs.Markings.{StartMark, GivesVerdict}
 use Rattle.space_model.specs.Outputs.{Told}
 use Rattle.space_model.specs.Reach.{IsStart, Reach, Named}
-use Rattle.space_model.specs.State.{State, is_present}
+use Rattle.space_model.specs.State.{State, Tables, is_present}
 use Rattle.space_model.specs.Sweeps.{Sweep1, Sweeps}
 use Rattle.space_model.specs.ToldInOrder.{AreToldInOrder}
+use Rattle.space_model.specs.WeakMaps.{entries_left}
+use Rattle.space_model.proofs.EntryLaws.{all_left, left_twice}
 use Rattle.space_model.proofs.MapLaws.{get-without, held_without, left-without}
 use Rattle.space_model.proofs.Members.{member_cases}
 use Rattle.space_model.proofs.Reaching.{IsReached-start, IsReached-mono}
 use Rattle.space_model.proofs.PageLaws.{length-spared}
 use Rattle.space_model.proofs.ToldNames.{gone_among, gone_among-append, gone_verdict_events, IsDistinct-rising, IsDistinct-append, verdict_in_order, AreToldInOrder-append, AreToldInOrder-same, gone_in-told}
 
--- the names that were taken were present and not reached, and are gone; each other one stands where it stood. They were told in order
+-- the names that were taken were present and not reached, and are gone, and entries of weak maps went with them; each other name stands where it
+-- stood. They were told in order
 pub record Leaves (s : State) (events : List Event) (t : State) : Type 0 where
   pub taken : List ℕ
   pub told : gone_among events ≡ taken
@@ -37,12 +40,14 @@ pub record Leaves (s : State) (events : List Event) (t : State) : Type 0 where
   pub stack : t.stack ≡ s.stack
   pub limit : t.heap.limit ≡ s.heap.limit
   pub page_count : length t.heap.pages ≡ length s.heap.pages
+  pub ids : t.tables.ids ≡ s.tables.ids
+  pub weak : t.tables.weak ≡ entries_left taken s.tables.weak
 
 -- where nothing is taken
 pub leaves_all : (s t : State) → t.graph ≡ s.graph → t.roots ≡ s.roots → t.stack ≡ s.stack → t.heap.place ≡ s.heap.place → t.heap.limit ≡ s.heap.limit →
-    length t.heap.pages ≡ length s.heap.pages → Leaves s [] t
+    length t.heap.pages ≡ length s.heap.pages → t.tables ≡ s.tables → Leaves s [] t
 unfolding IsDistinct
-leaves_all s t graph roots stack place limit page_count = record {
+leaves_all s t graph roots stack place limit page_count tables = record {
   taken = [];
   told = refl;
   present = λ n m. absurd (false≢true m);
@@ -55,10 +60,12 @@ leaves_all s t graph roots stack place limit page_count = record {
   stack = stack;
   limit = limit;
   page_count = page_count;
+  ids = ap (λ (tables : Tables). tables.ids) tables;
+  weak = ap (λ (tables : Tables). tables.weak) tables ∙ sym (all_left s.tables.weak);
 }
 
 pub leaves_same : (s t : State) → t ≡ s → Leaves s [] t
-leaves_same s t e = subst (Leaves s []) (sym e) (leaves_all s s refl refl refl refl refl refl)
+leaves_same s t e = subst (Leaves s []) (sym e) (leaves_all s s refl refl refl refl refl refl refl)
 
 module _ (s : State) (events : List Event) (t : State) (h : Leaves s events t) where
   -- what isn't taken stands where it stood
@@ -140,16 +147,18 @@ leaves_then s m t now later h k =
       stack = k.stack ∙ h.stack;
       limit = k.limit ∙ h.limit;
       page_count = k.page_count ∙ h.page_count;
+      ids = k.ids ∙ h.ids;
+      weak = k.weak ∙ ap (entries_left k.taken) h.weak ∙ left_twice h.taken k.taken s.tables.weak;
     }
 
 -- the start of a marking
 pub leaves_marked : (s t : State) → StartMark s t → Leaves s [] t
-leaves_marked s t e = subst (Leaves s []) (sym e) (leaves_all s _ refl refl refl refl refl refl)
+leaves_marked s t e = subst (Leaves s []) (sym e) (leaves_all s _ refl refl refl refl refl refl refl)
 
 -- the sweep of a page
 leaves_swept_page : (s t : State) (freed : List ℕ) → Sweep1 s freed t → Leaves s [] t
 leaves_swept_page s t freed step =
-    subst (Leaves s []) (sym step.after) (leaves_all s _ refl refl refl refl refl (length-spared s.heap.place step.page s.heap.pages))
+    subst (Leaves s []) (sym step.after) (leaves_all s _ refl refl refl refl refl (length-spared s.heap.place step.page s.heap.pages) refl)
 
 -- the sweep of some pages
 pub leaves_swept : (pages : ℕ) (s t : State) (freed : List ℕ) → Sweeps pages s freed t → Leaves s [] t
@@ -172,4 +181,6 @@ leaves_taken s kind taken events t v = record {
   stack = ap (λ (u : State). u.stack) v.takes;
   limit = ap (λ (u : State). u.heap.limit) v.takes;
   page_count = ap (λ (u : State). length u.heap.pages) v.takes;
+  ids = ap (λ (u : State). u.tables.ids) v.takes;
+  weak = ap (λ (u : State). u.tables.weak) v.takes;
 }

@@ -24,6 +24,8 @@ pub mod UnprotectedNames
 pub mod StackWords
 pub mod VerdictLaws
 pub mod MarkingKept
+pub mod TablesKept
+pub mod EntryLaws
 pub mod AfterPieces
 pub mod CollectionsKept
 pub mod RisingNames
@@ -42,6 +44,7 @@ pub mod FullLaws
 pub mod StatLaws
 pub mod PlacesAfter
 pub mod SoundKept
+pub mod TablesAfter
 pub mod WordsKept
 pub mod InputsGiven
 pub mod Cutting

@@ -19,7 +19,7 @@ use Rattle.space_model.specs.Moments.{noted}
 use Rattle.space_model.specs.Sound.{Sound}
 use Rattle.space_model.specs.State.{State, is_present}
 use Rattle.space_model.specs.Verdicts.{IsVerdict, verdict_events}
-use Rattle.space_model.proofs.AfterPieces.{SoundHeap, heap_of, sound_of}
+use Rattle.space_model.proofs.AfterPieces.{SoundHeap, heap_of, tables_of, sound_of}
 use Rattle.space_model.proofs.CollectionsKept.{SoundMoments-started, Sound-took}
 use Rattle.space_model.proofs.CorpseNames.{freed_pages, swept_pages, SweepAll-there}
 use Rattle.space_model.proofs.FirmNames.{firm_names, CountIs-firm, firm_few}
@@ -31,7 +31,7 @@ use Rattle.space_model.proofs.WholeLaws.{Sound-completed, completed_idle, leaves
 -- what they leave
 
 leaves_begun : (s t : State) → t ≡ marking_begun s → Leaves s [] t
-leaves_begun s t e = subst (Leaves s []) (sym e) (leaves_all s _ refl refl refl refl refl refl)
+leaves_begun s t e = subst (Leaves s []) (sym e) (leaves_all s _ refl refl refl refl refl refl refl)
 
 begins_leaves : (s t : State) (events : List Event) → BeginsMarking s events t → Leaves s events t
 begins_leaves s t events b =
@@ -68,7 +68,7 @@ begun_heap s idle h = record {
 Sound-marking_begun : (s : State) → s.collector.phase ≡ Idle → Sound s → Sound (marking_begun (mark_started s))
 Sound-marking_begun s idle h =
     let started = SoundMoments-started s in
-    sound_of (marking_begun (mark_started s)) (begun_heap s idle h) h.names h.items h.roots
+    sound_of (marking_begun (mark_started s)) (begun_heap s idle h) h.names h.items h.roots (tables_of s h)
     (record { seen = started.seen; once = started.once; mixed = started.mixed })
     (λ e. SoundMarking-started s 1 refl h.names)
 
@@ -83,7 +83,7 @@ major_sound s t events Done a h = begins_sound s t events a h
 major_sound s t events _ a h = absurd a
 
 pub Sound-scans_told : (s t : State) (scans : ℕ) → s.history.scanned + scans ≤ length s.history.seen → t ≡ scans_told s scans → Sound s → Sound t
-Sound-scans_told s t scans few e h = subst Sound (sym e) (sound_of (scans_told s scans) (heap_of s h) h.names h.items h.roots
+Sound-scans_told s t scans few e h = subst Sound (sym e) (sound_of (scans_told s scans) (heap_of s h) h.names h.items h.roots (tables_of s h)
     (record { seen = h.moments.seen; once = h.moments.once; mixed = h.moments.mixed })
     (λ m.
     let k = h.marking m in

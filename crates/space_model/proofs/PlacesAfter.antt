@@ -15,7 +15,6 @@ use Rattle.space_model.specs.declared.object.Style.{Style}
 use Rattle.space_model.specs.declared.reply.Reply.{Reply}
 use Rattle.space_model.specs.declared.reply.Reply.TheVariants.{Made, Full, NoMemory, Scanned, Refused}
 use Rattle.space_model.specs.Collections.{Collects}
-use Rattle.space_model.specs.Given.{IsGiven}
 use Rattle.space_model.specs.Graph.{IsChild}
 use Rattle.space_model.specs.Lawful.{Replies, Effects, Lawful}
 use Rattle.space_model.specs.Layout.{pool_for}
@@ -31,7 +30,7 @@ use Rattle.space_model.proofs.Leaving.{Leaves, leaves_swept}
 use Rattle.space_model.proofs.MajorLaws.{major_leaves, finish_leaves}
 use Rattle.space_model.proofs.MapLaws.{get-insert_name, get-without, some_get}
 use Rattle.space_model.proofs.Reaching.{IsReached-least}
-use Rattle.space_model.proofs.RepliedPieces.{IsPiece, Nothing, Root, Dropped, Stack, Field, Guard as GuardPiece, Swept, Scans, replied_piece}
+use Rattle.space_model.proofs.RepliedPieces.{IsPiece, Nothing, Root, Dropped, Stack, Field, Guard as GuardPiece, Tabled, Swept, Scans, replied_piece}
 use Rattle.space_model.proofs.Stages.{passed_leaves, place_leaves}
 use Rattle.space_model.proofs.ToldNames.{gone_among, gone_outputs, AreToldInOrder-append}
 use Rattle.space_model.proofs.WholeLaws.{leaves_collection}
@@ -87,16 +86,17 @@ same_heap : (s t : State) → t ≡ s → SameHeap s t
 same_heap s t e = ap (λ (u : State). u.heap) e
 
 -- so it is after a piece of work of a command without events
-piece_after : (given : Type 0) (s t : State) (events : List Event) → events ≡ [] → IsPiece given s t → PlacesAfter s events t
-piece_after given s t events none (Nothing same) = same_after s t events none (same_heap s t same)
-piece_after given s t events none (Root root value ident valid after) = same_after s t events none (ap (λ (u : State). u.heap) after)
-piece_after given s t events none (Dropped root after) = same_after s t events none (ap (λ (u : State). u.heap) after)
-piece_after given s t events none (Stack words after) = same_after s t events none (ap (λ (u : State). u.heap) after)
-piece_after given s t events none (Field name index value object valid reached after) = same_after s t events none (ap (λ (u : State). u.heap) after)
-piece_after given s t events none (GuardPiece name object after) = same_after s t events none (ap (λ (u : State). u.heap) after)
-piece_after given s t events none (Swept pages freed sweeps) =
+piece_after : (command : Command) (s t : State) (events : List Event) → events ≡ [] → IsPiece command s t → PlacesAfter s events t
+piece_after command s t events none (Nothing same) = same_after s t events none (same_heap s t same)
+piece_after command s t events none (Root root value ident valid after) = same_after s t events none (ap (λ (u : State). u.heap) after)
+piece_after command s t events none (Dropped root after) = same_after s t events none (ap (λ (u : State). u.heap) after)
+piece_after command s t events none (Stack words after) = same_after s t events none (ap (λ (u : State). u.heap) after)
+piece_after command s t events none (Field name index value object valid reached after) = same_after s t events none (ap (λ (u : State). u.heap) after)
+piece_after command s t events none (GuardPiece name object after) = same_after s t events none (ap (λ (u : State). u.heap) after)
+piece_after command s t events none (Tabled tables sound ids maps after) = same_after s t events none (ap (λ (u : State). u.heap) after)
+piece_after command s t events none (Swept pages freed sweeps) =
     worked s t events (subst (λ events. Leaves s events t) (sym none) (leaves_swept pages s t freed sweeps))
-piece_after given s t events none (Scans scans few after) = same_after s t events none (ap (λ (u : State). u.heap) after)
+piece_after command s t events none (Scans scans few after) = same_after s t events none (ap (λ (u : State). u.heap) after)
 
 -- what is present was allocated
 present_old : (s : State) → Sound s → (n : ℕ) → is_present s n ≡ true → n ≤ length s.graph
@@ -139,7 +139,7 @@ collects_after s t kind events _ e = absurd e
 
 -- a command without events takes nothing
 replies_after : (s t : State) (command : Command) (events : List Event) (reply : Reply) → events ≡ [] → Replies s command reply t → PlacesAfter s events t
-replies_after s t command events reply none e = piece_after (IsGiven command) s t events none (replied_piece s t command reply e)
+replies_after s t command events reply none e = piece_after command s t events none (replied_piece s t command reply e)
 
 -- what a command does to places, and its answer, which tells no name to be gone
 record EffectsAfter (s : State) (events : List Event) (answer : List Output) (t : State) : Type 0 where
@@ -171,6 +171,12 @@ gone_stay s t command outputs l n old gone =
     none_left : (b : Bool) (o : Option ℕ) → is_some o ≡ false → is_some (cond b None o) ≡ false
     none_left true o none = refl
     none_left false o none = none
+
+-- the names that the outputs tell to be gone are those of the events
+pub gone_told : (s t : State) (command : Command) (outputs : List Output) (l : Lawful s command outputs t) → gone_in outputs ≡ gone_among l.events
+gone_told s t command outputs l =
+    let its = effects_after s t command l.events l.answer l.effects in
+    ap gone_in (l.outputs_are ∙ ap (λ answer. map Told l.events ++ answer) its.answer_is) ∙ gone_outputs l.events its.reply
 
 module _ (s t : State) (command : Command) (outputs : List Output) (l : Lawful s command outputs t) (h : Sound s) where
   its : EffectsAfter s l.events l.answer t

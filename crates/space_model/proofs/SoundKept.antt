@@ -1,10 +1,10 @@
 -- The opening is sound, and lawful commands keep states so.
-use Rattle.std.proofs.Common.{◌≡◌, ℕ, ◌+◌, ◌≤◌, true, List, [], ◌∷◌, length, nat_eq, refl, sym, ap, ◌∙◌, subst, arith, ⊎_elim, None, Some}
+use Rattle.std.proofs.Common.{◌≡◌, ℕ, ◌+◌, ◌≤◌, true, List, [], ◌∷◌, ◌++◌, length, nat_eq, refl, sym, ap, ◌∙◌, subst, arith, ⊎_elim, None, Some}
 use Rattle.std.specs.Prelude.{is_some}
 use Rattle.std.specs.List.{IsDistinct}
 use Rattle.std.specs.Set.{is_member}
 use Rattle.std.specs.Ordering.{nat_cmp}
-use Rattle.std.specs.FinMap.{FinMap, get, keys, empty, get-empty}
+use Rattle.std.specs.FinMap.{FinMap, get, insert, keys, empty, get-empty}
 use Rattle.std.proofs.lemmas.Bool.{false≢true, and_parts}
 use Rattle.std.proofs.lemmas.List.{length-append}
 use Rattle.space_model.specs.declared.command.Command.{Command}
@@ -29,23 +29,24 @@ use Rattle.space_model.specs.Reach.{IsStart, Reach}
 use Rattle.space_model.specs.Roots.{root_names}
 use Rattle.space_model.specs.Given.{IsGiven, AreGiven}
 use Rattle.space_model.specs.Sound.{AreSlots, Sound, IsSmall}
-use Rattle.space_model.specs.State.{State, opening}
+use Rattle.space_model.specs.State.{State, Tables, opening}
 use Rattle.space_model.specs.StoredWords.{without_pair}
-use Rattle.space_model.proofs.AfterPieces.{heap_of, after_piece}
+use Rattle.space_model.proofs.AfterPieces.{heap_of, tables_of, sound_of, after_piece}
 use Rattle.space_model.proofs.CollectionsKept.{Sound-sweeps}
 use Rattle.space_model.proofs.CorpsesKept.{SoundCorpses-born}
 use Rattle.space_model.proofs.KeptNames.{SoundKept-born}
 use Rattle.space_model.proofs.LayoutKept.{IsFoundAt, found_at, fresh_slot, fresh_corpse, fresh_left, SoundLayout-born}
 use Rattle.space_model.proofs.LeftKept.{SoundLeft-none, SoundStale-none, SoundLeft-born, SoundStale-born}
 use Rattle.space_model.proofs.MajorLaws.{Sound-scans_told, major_sound, finish_sound}
-use Rattle.space_model.proofs.MapLaws.{some_get}
+use Rattle.space_model.proofs.MapLaws.{some_get, present-insert}
 use Rattle.space_model.proofs.MarkingKept.{SoundMarking-born, SoundMarking-field_written, SoundMarking-unprotected}
 use Rattle.space_model.proofs.NamesKept.{written_shape, written_long, SoundNames-born, SoundNames-root_written, SoundNames-root_dropped, SoundNames-field_written, SoundStale-field_written, SoundKept-field_written}
 use Rattle.space_model.proofs.SweepKept.{SoundSweep-born, SoundUsed-born}
 use Rattle.space_model.proofs.Members.{member_filter}
+use Rattle.space_model.proofs.TablesKept.{SoundTables, SoundIds-longer, AreSoundEntries-present}
 use Rattle.space_model.proofs.ReachedLaws.{member-keys}
 use Rattle.space_model.proofs.Reaching.{IsReached-least}
-use Rattle.space_model.proofs.RepliedPieces.{IsPiece, Nothing, Root, Dropped, Stack, Field, Guard as GuardPiece, Swept, Scans, replied_piece}
+use Rattle.space_model.proofs.RepliedPieces.{IsPiece, Nothing, Root, Dropped, Stack, Field, Guard as GuardPiece, Tabled, Swept, Scans, tables_replaced, replied_piece}
 use Rattle.space_model.proofs.SameShapes.{SoundLayout-shaped, SoundCorpses-shaped, SoundLeft-shaped}
 use Rattle.space_model.proofs.Stages.{passed_sound, place_sound}
 use Rattle.space_model.proofs.UnprotectedNames.{unprotected_shape, unprotected_long, SoundNames-unprotected, SoundStale-unprotected, SoundKept-unprotected, AreSoundItems-unprotected}
@@ -107,6 +108,8 @@ Sound-opening limit = record {
   stale = SoundStale-none [] none_yet none_yet [] 0 refl;
   items = tt;
   roots = tt;
+  ids = record { allocated = λ n m. absurd (false≢true m); once = tt };
+  weak = tt;
   names = record {
     children_present = λ m n p c. absurd (nothing_present m p);
     roots_present = λ n m. absurd (no_root n m);
@@ -144,6 +147,11 @@ Sound-born s t root fields guard style address ident few found e h =
       names = SoundNames-born s root fields guard style address h.layout.placed h.names;
       items = AreSoundItems-push s.graph guard style fields few h.items;
       roots = AreSoundRoots-with_root s.roots root (Name (length s.graph + 1)) ident tt h.roots;
+      tables = record {
+        ids = SoundIds-longer s.graph (s.graph ++ new_item guard style fields ∷ []) s.tables.ids (omega arith) h.ids;
+        weak = AreSoundEntries-present s.heap.place (insert s.heap.place (length s.graph + 1) address) s.tables.weak
+            (present-insert s.heap.place (length s.graph + 1) address) h.weak;
+      };
       once = h.moments.once;
       marking = λ e. SoundMarking-born s fields guard style address h.layout.placed (h.marking e);
     })
@@ -155,6 +163,7 @@ Sound-root_written s t root value ident present small e h = after_piece (root_wr
   names = SoundNames-root_written s.graph s.roots s.heap.place root value present h.names;
   items = h.items;
   roots = AreSoundRoots-with_root s.roots root value ident small h.roots;
+  tables = tables_of s h;
   once = h.moments.once;
   marking = h.marking;
 })
@@ -165,6 +174,7 @@ Sound-root_dropped s t root e h = after_piece (root_dropped s root) t e (record 
   names = SoundNames-root_dropped s.graph s.roots s.heap.place root h.names;
   items = h.items;
   roots = AreSoundRoots-without_root s.roots root h.roots;
+  tables = tables_of s h;
   once = h.moments.once;
   marking = h.marking;
 })
@@ -176,6 +186,7 @@ Sound-stack_replaced s t words e h = after_piece (stack_replaced s words) t e (r
   names = h.names;
   items = h.items;
   roots = h.roots;
+  tables = tables_of s h;
   once = h.moments.once;
   marking = h.marking;
 })
@@ -204,6 +215,7 @@ Sound-field_written s t name index value there present small reached e h =
       names = SoundNames-field_written s name index value h.layout.placed b.0 b.1 present h.names;
       items = AreSoundItems-field_written s.graph name index value small h.items;
       roots = h.roots;
+      tables = record { ids = SoundIds-longer s.graph written s.tables.ids (omega (arith, long)) h.ids; weak = h.weak };
       once = h.moments.once;
       marking = λ m. SoundMarking-field_written s name index value h.layout.placed b.0 b.1 reached h.moments (h.marking m);
     })
@@ -229,9 +241,15 @@ Sound-unprotected s t name there e h =
       names = SoundNames-unprotected s name h.layout.placed there h.names;
       items = AreSoundItems-unprotected s name h.layout.placed there h.items;
       roots = h.roots;
+      tables = record { ids = SoundIds-longer s.graph now s.tables.ids (omega (arith, long)) h.ids; weak = h.weak };
       once = h.moments.once;
       marking = λ m. SoundMarking-unprotected s name h.layout.placed there (h.marking m);
     })
+
+Sound-tables_replaced : (s t : State) (tables : Tables) → SoundTables s.graph s.heap.place tables → t ≡ tables_replaced s tables → Sound s → Sound t
+Sound-tables_replaced s t tables sound e h = subst Sound (sym e) (sound_of (tables_replaced s tables) (heap_of s h) h.names h.items h.roots sound
+    (record { seen = h.moments.seen; once = h.moments.once; mixed = h.moments.mixed })
+    h.marking)
 
 new_sound : (s t : State) (root : List ℕ) (fields : ℕ) (guard : Guard) (style : Style) (events : List Event) (reply : Reply) → IsIdent root →
     AnswersNew s root fields guard style events reply t → Sound s → Sound t
@@ -247,17 +265,18 @@ new_sound s t root fields guard style events NoMemory ident e h = ⊎_elim
 new_sound s t root fields guard style events (Refused why) ident e h = subst Sound (sym e.3) h
 new_sound s t root fields guard style events _ ident e h = absurd e
 
-piece_sound : (given : Type 0) (s t : State) → given → IsPiece given s t → Sound s → Sound t
-piece_sound given s t i (Nothing same) h = subst Sound (sym same) h
-piece_sound given s t i (Root root value ident valid after) h = let v = valid i h in Sound-root_written s t root value (ident i) v.0 v.1 after h
-piece_sound given s t i (Dropped root after) h = Sound-root_dropped s t root after h
-piece_sound given s t i (Stack words after) h = Sound-stack_replaced s t words after h
-piece_sound given s t i (Field name index value object valid reached after) h =
+piece_sound : (command : Command) (s t : State) → IsGiven command → IsPiece command s t → Sound s → Sound t
+piece_sound command s t i (Nothing same) h = subst Sound (sym same) h
+piece_sound command s t i (Root root value ident valid after) h = let v = valid i h in Sound-root_written s t root value (ident i) v.0 v.1 after h
+piece_sound command s t i (Dropped root after) h = Sound-root_dropped s t root after h
+piece_sound command s t i (Stack words after) h = Sound-stack_replaced s t words after h
+piece_sound command s t i (Field name index value object valid reached after) h =
     let v = valid i h in
     Sound-field_written s t name index value (name_present s.heap.place name (object i h).0) v.0 v.1 (reached i) after h
-piece_sound given s t i (GuardPiece name object after) h = Sound-unprotected s t name (name_present s.heap.place name (object i h).0) after h
-piece_sound given s t i (Swept pages freed sweeps) h = Sound-sweeps pages s t freed sweeps h
-piece_sound given s t i (Scans scans few after) h = Sound-scans_told s t scans few after h
+piece_sound command s t i (GuardPiece name object after) h = Sound-unprotected s t name (name_present s.heap.place name (object i h).0) after h
+piece_sound command s t i (Tabled tables sound ids maps after) h = Sound-tables_replaced s t tables (sound h) after h
+piece_sound command s t i (Swept pages freed sweeps) h = Sound-sweeps pages s t freed sweeps h
+piece_sound command s t i (Scans scans few after) h = Sound-scans_told s t scans few after h
 
 effects_sound : (s t : State) (command : Command) (events : List Event) (answer : List Output) → IsGiven command → Effects s command events answer t →
     Sound s → Sound t
@@ -266,7 +285,7 @@ effects_sound s t Minor events answer i e h = collects_sound s t MinorKind event
 effects_sound s t Gc events answer i e h = collects_sound s t FullKind events e.reply e.is h
 effects_sound s t Major events answer i e h = major_sound s t events e.reply e.is h
 effects_sound s t Finish events answer i e h = finish_sound s t events e.reply e.is h
-effects_sound s t command events answer i e h = piece_sound (IsGiven command) s t i (replied_piece s t command e.1.reply e.1.is) h
+effects_sound s t command events answer i e h = piece_sound command s t i (replied_piece s t command e.1.reply e.1.is) h
 
 pub lawful_sound : (s t : State) (command : Command) (outputs : List Output) → IsGiven command → Lawful s command outputs t → Sound s → Sound t
 lawful_sound s t command outputs i l h = effects_sound s t command l.events l.answer i l.effects h

@@ -4,7 +4,9 @@ use Rattle.std.specs.Option.{option_to_list}
 use Rattle.std.specs.List.{slice_split, All}
 use Rattle.std.specs.Str.Parse.{AllDigits, digits_value}
 use Rattle.space_model.specs.declared.command.Command.{Command}
-use Rattle.space_model.specs.declared.command.Command.TheVariants.{New, Set, DropRoot, Push, Raw, Pop, Store, RawStore, Load, Same, Unprotect, Minor, Gc, Major, Mark, Finish, Sweep, Stat}
+use Rattle.space_model.specs.declared.command.Command.TheVariants.{New, Set, DropRoot, Push, Raw, Pop, Store, RawStore, Load, Same, Unprotect}
+use Rattle.space_model.specs.declared.command.Command.TheVariants.{Id, ById, WeakSet, WeakGet, WeakKey, WeakSize, WeakDelete}
+use Rattle.space_model.specs.declared.command.Command.TheVariants.{Minor, Gc, Major, Mark, Finish, Sweep, Stat}
 use Rattle.space_model.specs.declared.command.Input.{Input}
 use Rattle.space_model.specs.declared.command.Input.TheVariants.{From, Nil, Small}
 use Rattle.space_model.specs.declared.command.Operand.{Operand}
@@ -92,6 +94,13 @@ form_of (RawStore object index value) = Exactly (codes "rawstore") ∷ OperandWo
 form_of (Load root object index) = Exactly (codes "load") ∷ IdentWord root ∷ OperandWord object ∷ Decimal index ∷ []
 form_of (Same left right) = Exactly (codes "same") ∷ OperandWord left ∷ OperandWord right ∷ []
 form_of (Unprotect object) = Exactly (codes "unprotect") ∷ OperandWord object ∷ []
+form_of (Id object) = Exactly (codes "id") ∷ OperandWord object ∷ []
+form_of (ById root id) = Exactly (codes "byid") ∷ IdentWord root ∷ Decimal id ∷ []
+form_of (WeakSet weak key value) = Exactly (codes "wset") ∷ IdentWord weak ∷ OperandWord key ∷ OperandWord value ∷ []
+form_of (WeakGet root weak key) = Exactly (codes "wget") ∷ IdentWord root ∷ IdentWord weak ∷ OperandWord key ∷ []
+form_of (WeakKey weak key) = Exactly (codes "wkey") ∷ IdentWord weak ∷ OperandWord key ∷ []
+form_of (WeakSize weak) = Exactly (codes "wsize") ∷ IdentWord weak ∷ []
+form_of (WeakDelete weak key) = Exactly (codes "wdel") ∷ IdentWord weak ∷ OperandWord key ∷ []
 form_of Minor = Exactly (codes "minor") ∷ []
 form_of Gc = Exactly (codes "gc") ∷ []
 form_of Major = Exactly (codes "major") ∷ []

@@ -1,13 +1,16 @@
 -- Which outputs a command may have, and the state after it: one row a command.
 use Rattle.std.specs.Prelude.{◌≡◌, List, [], ◌∷◌, ◌++◌, map}
 use Rattle.space_model.specs.declared.command.Command.{Command}
-use Rattle.space_model.specs.declared.command.Command.TheVariants.{New, Set, DropRoot, Push, Raw, Pop, Store, RawStore, Load, Same, Unprotect, Minor, Gc, Major, Mark, Finish, Sweep, Stat}
+use Rattle.space_model.specs.declared.command.Command.TheVariants.{New, Set, DropRoot, Push, Raw, Pop, Store, RawStore, Load, Same, Unprotect}
+use Rattle.space_model.specs.declared.command.Command.TheVariants.{Id, ById, WeakSet, WeakGet, WeakKey, WeakSize, WeakDelete}
+use Rattle.space_model.specs.declared.command.Command.TheVariants.{Minor, Gc, Major, Mark, Finish, Sweep, Stat}
 use Rattle.space_model.specs.declared.event.Event.{Event}
 use Rattle.space_model.specs.declared.event.Kind.TheVariants.{Minor as MinorKind, Full}
 use Rattle.space_model.specs.declared.reply.Reply.{Reply}
 use Rattle.space_model.specs.RootCommands.{Sets, DropsRoot, Loads}
 use Rattle.space_model.specs.ObjectCommands.{Stores, RawStores, Unprotects, Compares}
 use Rattle.space_model.specs.Collections.{Collects}
+use Rattle.space_model.specs.IdCommands.{TellsIdOf, FindsById}
 use Rattle.space_model.specs.MajorMarking.{AnswersMajor, AnswersMark, AnswersFinish}
 use Rattle.space_model.specs.NewCommand.{AnswersNew}
 use Rattle.space_model.specs.Outputs.{Output, Told, Replied}
@@ -15,6 +18,7 @@ use Rattle.space_model.specs.StackCommands.{Pushes, PushesWord, Pops}
 use Rattle.space_model.specs.Stat.{AnswersStat}
 use Rattle.space_model.specs.State.{State}
 use Rattle.space_model.specs.Sweeps.{AnswersSweep}
+use Rattle.space_model.specs.WeakCommands.{SetsWeak, GetsWeak, HasWeak, CountsWeak, DeletesWeak}
 
 -- the reply of a command without events, and the state after it; of a command with events it never holds
 abbrev pub Replies : State → Command → Reply → State → Type 0
@@ -28,6 +32,13 @@ Replies s (RawStore object index value) reply t = RawStores s object index value
 Replies s (Load root object index) reply t = Loads s root object index reply t
 Replies s (Same left right) reply t = Compares s left right reply t
 Replies s (Unprotect object) reply t = Unprotects s object reply t
+Replies s (Id object) reply t = TellsIdOf s object reply t
+Replies s (ById root id) reply t = FindsById s root id reply t
+Replies s (WeakSet weak key value) reply t = SetsWeak s weak key value reply t
+Replies s (WeakGet root weak key) reply t = GetsWeak s root weak key reply t
+Replies s (WeakKey weak key) reply t = HasWeak s weak key reply t
+Replies s (WeakSize weak) reply t = CountsWeak s weak reply t
+Replies s (WeakDelete weak key) reply t = DeletesWeak s weak key reply t
 Replies s (Mark count) reply t = AnswersMark s count reply t
 Replies s (Sweep count) reply t = AnswersSweep s count reply t
 Replies s Stat reply t = AnswersStat s reply t

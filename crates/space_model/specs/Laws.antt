@@ -254,7 +254,7 @@ ReachedArePresent = (s : State) → Sound s → (name : ℕ) → Reach s name �
 abbrev pub VisibleIsReached : Type 0
 VisibleIsReached = (s : State) (name : ℕ) → VisibleReach s name → Reach s name
 
--- in a sound state a path leads to what is reached from a root that a line can name, or from a stack word, until weak maps hold values too
+-- in a sound state a path leads to what is reached from a root that a line can name, or from a stack word: weak maps keep nothing
 abbrev pub ReachedIsVisible : Type 0
 ReachedIsVisible = (s : State) → Sound s → (name : ℕ) → Reach s name → VisibleReach s name
 

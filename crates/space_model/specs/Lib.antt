@@ -17,6 +17,7 @@ pub mod Maps
 pub mod Places
 pub mod FullHeap
 pub mod Pieces
+pub mod WeakMaps
 pub mod Verdicts
 pub mod Sweeps
 pub mod Markings
@@ -29,6 +30,8 @@ pub mod StoredWords
 pub mod RootCommands
 pub mod ObjectCommands
 pub mod StackCommands
+pub mod IdCommands
+pub mod WeakCommands
 pub mod Stat
 pub mod NewCommand
 pub mod Lawful
@@ -41,3 +44,4 @@ pub mod Outputs
 pub mod ToldInOrder
 pub mod Texts
 pub mod Laws
+pub mod TableLaws

@@ -11,6 +11,7 @@ use Rattle.space_model.specs.Pages.{pool_pages}
 use Rattle.space_model.specs.Reached.{start_names, reached_names}
 use Rattle.space_model.specs.State.{State, Counters}
 use Rattle.space_model.specs.Sweeps.{sweep_phase}
+use Rattle.space_model.specs.WeakMaps.{entries_left}
 use Rattle.space_model.specs.Verdicts.{IsVerdict, verdict_events}
 
 -- a marking starts: what is reached now, and who has a child now that isn't old, is all that was noted since. It begins with what roots hold
@@ -29,8 +30,8 @@ abbrev pub counted : Kind → Counters → Counters
 counted Minor counters = record counters { minor_verdicts = counters.minor_verdicts + 1 }
 counted _ counters = record counters { other_verdicts = counters.other_verdicts + 1 }
 
--- a verdict was carried out: what it takes are corpses, each name that it left outlived one verdict more, and every page with a pool waits
--- for a sweep
+-- a verdict was carried out: what it takes are corpses, each name that it left outlived one verdict more, entries of weak maps go with their
+-- key or their value, and every page with a pool waits for a sweep
 abbrev pub took : State → Kind → List ℕ → State
 took s kind taken = record s {
   heap = record s.heap {
@@ -44,6 +45,7 @@ took s kind taken = record s {
     kept = kept_after_verdict kind s.graph (without s.heap.place taken) (aged (without s.heap.place taken) s.collector.outlived) s.collector.kept;
     vague = vague_after_verdict kind s.collector.vague;
   };
+  tables = record s.tables { weak = entries_left taken s.tables.weak };
   counters = counted kind s.counters;
 }
 

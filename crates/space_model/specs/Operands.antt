@@ -13,6 +13,7 @@ use Rattle.space_model.specs.declared.value.Value.{Value}
 use Rattle.space_model.specs.declared.value.Value.TheVariants.{Nil, Small, Name}
 use Rattle.space_model.specs.Graph.{Item}
 use Rattle.space_model.specs.Maps.{names_at}
+use Rattle.space_model.specs.Refusals.{and_then}
 use Rattle.space_model.specs.Roots.{Root, root_value}
 use Rattle.space_model.specs.State.{State}
 use Rattle.space_model.specs.Words.{small_number_word}
@@ -64,6 +65,10 @@ abbrev pub object_in : Value → Result ℕ Refusal
 object_in Nil = Err NotObject
 object_in (Small number) = Err NotObject
 object_in (Name name) = Ok name
+
+-- the name of an operand, where an object is needed
+abbrev pub object_of : State → Operand → Result ℕ Refusal
+object_of s operand = and_then (operand_value s operand) object_in
 
 -- the value of a field of an item
 abbrev pub field_in : Item → ℕ → Result Value Refusal

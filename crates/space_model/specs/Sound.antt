@@ -18,8 +18,9 @@ use Rattle.space_model.specs.Pages.{pool_at, is_used}
 use Rattle.space_model.specs.Places.{pool_of, IsSlot}
 use Rattle.space_model.specs.Reach.{Reach}
 use Rattle.space_model.specs.Roots.{Root, root_value, root_names}
-use Rattle.space_model.specs.State.{State}
+use Rattle.space_model.specs.State.{State, WeakEntry}
 use Rattle.space_model.specs.StoredWords.{is_stale}
+use Rattle.space_model.specs.WeakMaps.{weak_value}
 use Rattle.space_model.specs.Words.{IsSmallInteger}
 
 -- the map has names that were allocated, each at a slot of its own
@@ -91,6 +92,18 @@ abbrev pub SoundKept : List Item → FinMap nat_cmp ℕ → List ℕ → Type 0
 SoundKept graph place kept =
     (name : ℕ) → is_member nat_eq kept name ≡ true → (is_some (get place name) ≡ true) × (is_protected graph name ≡ false)
 
+-- names with an id were allocated, and each has one
+pub record SoundIds (graph : List Item) (ids : List ℕ) : Type 0 where
+  pub allocated : (name : ℕ) → is_member nat_eq ids name ≡ true → (0 < name) × (name ≤ length graph)
+  pub once : IsDistinct nat_eq ids
+
+-- the key and the value of each entry are present, and no two entries belong to the same map and key
+abbrev pub AreSoundEntries : FinMap nat_cmp ℕ → List WeakEntry → Type 0
+AreSoundEntries place [] = Unit {0}
+AreSoundEntries place (entry ∷ entries) =
+    (is_some (get place entry.key_name) ≡ true) × (is_some (get place entry.value_name) ≡ true)
+    × (weak_value entries entry.map_name entry.key_name ≡ None) × AreSoundEntries place entries
+
 -- while a marking goes on: it began with names that were seen; what was seen is present, and so are its children, which were seen; other names
 -- may be kept than those that are for certain; and no more scans were told than names were seen
 pub record SoundMarking (graph : List Item) (place : FinMap nat_cmp ℕ) (seen began : List ℕ) (scanned vague : ℕ) : Type 0 where
@@ -139,6 +152,8 @@ pub record Sound (s : State) : Type 0 where
   pub stale : SoundStale s.graph s.heap.place s.heap.left s.collector.stale s.collector.cursor
   pub names : SoundNames s.graph s.roots s.heap.place
   pub kept : SoundKept s.graph s.heap.place s.collector.kept
+  pub ids : SoundIds s.graph s.tables.ids
+  pub weak : AreSoundEntries s.heap.place s.tables.weak
   pub items : AreSoundItems s.graph
   pub roots : AreSoundRoots s.roots
   pub outlived : length s.collector.outlived ≡ length s.graph

@@ -6,10 +6,10 @@ use Rattle.space_model.specs.declared.event.Event.TheVariants.{Gone, Verdict}
 use Rattle.space_model.specs.declared.event.Kind.{Kind}
 use Rattle.space_model.specs.declared.event.Kind.TheVariants.{Minor, Major, Full as FullKind}
 use Rattle.space_model.specs.declared.reply.Refusal.{Refusal}
-use Rattle.space_model.specs.declared.reply.Refusal.TheVariants.{TooLarge, NoRoot, NoWord, NotObject, NoField, Protected, NotMarking}
+use Rattle.space_model.specs.declared.reply.Refusal.TheVariants.{TooLarge, NoRoot, NoWord, NotObject, NoField, Protected, NoId, NotMarking}
 use Rattle.space_model.specs.declared.reply.Reply.{Reply}
 use Rattle.space_model.specs.declared.stat.Stat.{Stat}
-use Rattle.space_model.specs.declared.reply.Reply.TheVariants.{Made, Full, NoMemory, Done, Pushed, Read, Truth, Scanned, Marked, SweepCount, StatLine, Refused}
+use Rattle.space_model.specs.declared.reply.Reply.TheVariants.{Made, Full, NoMemory, Done, Pushed, Read, Truth, Number as NumberReply, GoneId, Scanned, Marked, SweepCount, StatLine, Refused}
 use Rattle.space_model.specs.declared.value.Value.{Value}
 use Rattle.space_model.specs.declared.value.Value.TheVariants.{Nil, Small, Name}
 use Rattle.space_model.specs.Outputs.{Output, Told, Replied}
@@ -40,6 +40,7 @@ refusal_text NoWord = codes "error no word"
 refusal_text NotObject = codes "error not an object"
 refusal_text NoField = codes "error no field"
 refusal_text Protected = codes "error protected"
+refusal_text NoId = codes "error no id"
 refusal_text NotMarking = codes "error not marking"
 
 -- `true` or `false`
@@ -81,6 +82,8 @@ reply_pieces Done = Say (codes "ok") ∷ []
 reply_pieces (Pushed word names) = Say (codes "word ") ∷ Hex word ∷ Say (codes " names ") ∷ named_pieces names
 reply_pieces (Read value) = value_pieces value
 reply_pieces (Truth answer) = Say (truth_text answer) ∷ []
+reply_pieces (NumberReply number) = Number number ∷ []
+reply_pieces GoneId = Say (codes "gone") ∷ []
 reply_pieces (Scanned count) = Say (codes "ok scanned ") ∷ Number count ∷ []
 reply_pieces (Marked scanned grey) = Say (codes "scanned ") ∷ Number scanned ∷ Say (codes " grey ") ∷ Number grey ∷ []
 reply_pieces (SweepCount freed left) = Say (codes "freed ") ∷ Number freed ∷ Say (codes " left ") ∷ Number left ∷ []

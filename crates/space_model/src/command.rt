@@ -77,6 +77,41 @@ pub enum Command {
     Unprotect {
         object: Operand,
     },
+    /// Tells the id of the object, which is given when it is first asked for (`object_id` of CRuby 3.3).
+    Id {
+        object: Operand,
+    },
+    /// The root holds the object that has the id (`ObjectSpace._id2ref` of CRuby 3.3); a new root comes last.
+    ById {
+        root: Ident,
+        id: u64,
+    },
+    /// The key has the value in the weak map, which keeps neither of them (`ObjectSpace::WeakMap` of CRuby 3.3).
+    WeakSet {
+        weak: Ident,
+        key: Operand,
+        value: Operand,
+    },
+    /// The root holds the value of the key in the weak map, or nil where it has none; a new root comes last.
+    WeakGet {
+        root: Ident,
+        weak: Ident,
+        key: Operand,
+    },
+    /// Tells whether the key has a value in the weak map.
+    WeakKey {
+        weak: Ident,
+        key: Operand,
+    },
+    /// Tells how many entries the weak map has.
+    WeakSize {
+        weak: Ident,
+    },
+    /// The entry of the key is taken out of the weak map; tells whether there was one.
+    WeakDelete {
+        weak: Ident,
+        key: Operand,
+    },
     /// A minor collection: young objects go that no root, no stack word, no old object and no object that is kept leads to.
     Minor,
     /// A whole collection: what no root and no stack word leads to goes (`GC.start` of CRuby 3.3).

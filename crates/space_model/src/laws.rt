@@ -3,6 +3,7 @@ ghost use Rattle.space_model.specs.Laws.{ReachHasStarts, ReachIsClosed, ReachIsL
 ghost use Rattle.space_model.specs.Laws.{OpeningIsSound, LawfulIsSound, LawfulAllIsSound, InputsAreGiven};
 ghost use Rattle.space_model.specs.Laws.{StartMarkIsSound, TookIsSound, Sweep1IsSound, SweepsAreSound, SweepAllEnds, SweepsAreCounted, SweepIsThere, CompletesIsSound};
 ghost use Rattle.space_model.specs.Laws.{StatIsThere, CountsAreOne};
+ghost use Rattle.space_model.specs.TableLaws.{IdsStay, IdsAreOne, EntriesGoWithObjects, SetIsRead, DeletedIsGone, SizeIsOfKeys};
 ghost use Rattle.space_model.specs.Laws.{SeenAreReached, VerdictsReachNoMore, ReachedOutliveVerdicts, FullLeavesReached};
 ghost use Rattle.space_model.specs.Laws.{SweepsKeepPlaces, SweepsKeepReach, CompletesReachNoMore, ReachedOutliveCompletions};
 ghost use Rattle.space_model.specs.Laws.{CollectionScansReached, FullCollectionLeavesReached, CollectionsKeepGraph, GcIsThere, MinorIsThere};
@@ -111,6 +112,21 @@ pub fn what_goes_is_told()
     ensures order { GoneAreToldInOrder }
     ensures once { GoneAreToldOnce }
     ensures stays { GoneStayGone }
+{}
+
+/// A name has one id and keeps it, and no other name has it or gets it.
+pub fn ids_stay()
+    ensures stay { IdsStay }
+    ensures one { IdsAreOne }
+{}
+
+/// An entry of a weak map goes with its key or its value, and else by the commands alone that set or delete it; these leave all others.
+/// Entries are read as they were set, and counted by their keys.
+pub fn entries_go_with_their_objects()
+    ensures goes { EntriesGoWithObjects }
+    ensures set { SetIsRead }
+    ensures deleted { DeletedIsGone }
+    ensures size { SizeIsOfKeys }
 {}
 
 /// After a push the top of the stack has the value that was pushed.

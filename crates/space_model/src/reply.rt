@@ -16,6 +16,8 @@ pub enum Refusal {
     NoField,
     /// The write barrier protects the object.
     Protected,
+    /// The id was never given.
+    NoId,
     /// No major marking is under way.
     NotMarking,
 }
@@ -38,6 +40,10 @@ pub enum Reply {
     Read { value: Value },
     /// The answer to a question.
     Truth { yes: bool },
+    /// An id, or a number of entries.
+    Number { number: u64 },
+    /// The object that has the id is gone.
+    GoneId,
     /// A marking was done, or ended, with so many scans: each reads the fields of one object.
     Scanned { count: u64 },
     /// A major marking made so many scans more, and so many objects that it has marked wait for theirs.

@@ -6,7 +6,9 @@ use Rattle.std.specs.List.{slice_index, onto_first}
 use Rattle.std.specs.Str.{bytes_eq}
 use Rattle.std.specs.Str.Parse.{digits_value}
 use Rattle.space_model.specs.declared.command.Command.{Command}
-use Rattle.space_model.specs.declared.command.Command.TheVariants.{New, Set, DropRoot, Push, Raw, Pop, Store, RawStore, Load, Same, Unprotect, Minor, Gc, Major, Mark, Finish, Sweep, Stat}
+use Rattle.space_model.specs.declared.command.Command.TheVariants.{New, Set, DropRoot, Push, Raw, Pop, Store, RawStore, Load, Same, Unprotect}
+use Rattle.space_model.specs.declared.command.Command.TheVariants.{Id, ById, WeakSet, WeakGet, WeakKey, WeakSize, WeakDelete}
+use Rattle.space_model.specs.declared.command.Command.TheVariants.{Minor, Gc, Major, Mark, Finish, Sweep, Stat}
 use Rattle.space_model.specs.declared.command.Input.{Input}
 use Rattle.space_model.specs.declared.command.Input.TheVariants.{From, Nil, Small}
 use Rattle.space_model.specs.declared.command.Operand.{Operand}
@@ -76,6 +78,34 @@ abbrev unprotect_of : List (List ℕ) → Option Command
 unprotect_of (object ∷ rest) = Some (Unprotect (operand_of object))
 unprotect_of _ = None
 
+abbrev id_of : List (List ℕ) → Option Command
+id_of (object ∷ rest) = Some (Id (operand_of object))
+id_of _ = None
+
+abbrev by_id_of : List (List ℕ) → Option Command
+by_id_of (root ∷ id ∷ rest) = Some (ById root (digits_value 10 id))
+by_id_of _ = None
+
+abbrev weak_set_of : List (List ℕ) → Option Command
+weak_set_of (weak ∷ key ∷ value ∷ rest) = Some (WeakSet weak (operand_of key) (operand_of value))
+weak_set_of _ = None
+
+abbrev weak_get_of : List (List ℕ) → Option Command
+weak_get_of (root ∷ weak ∷ key ∷ rest) = Some (WeakGet root weak (operand_of key))
+weak_get_of _ = None
+
+abbrev weak_key_of : List (List ℕ) → Option Command
+weak_key_of (weak ∷ key ∷ rest) = Some (WeakKey weak (operand_of key))
+weak_key_of _ = None
+
+abbrev weak_size_of : List (List ℕ) → Option Command
+weak_size_of (weak ∷ rest) = Some (WeakSize weak)
+weak_size_of _ = None
+
+abbrev weak_delete_of : List (List ℕ) → Option Command
+weak_delete_of (weak ∷ key ∷ rest) = Some (WeakDelete weak (operand_of key))
+weak_delete_of _ = None
+
 abbrev mark_of : List (List ℕ) → Option Command
 mark_of (count ∷ rest) = Some (Mark (digits_value 10 count))
 mark_of _ = None
@@ -97,6 +127,13 @@ form_of name words =
     else if bytes_eq name (codes "load") then load_of words
     else if bytes_eq name (codes "same") then same_of words
     else if bytes_eq name (codes "unprotect") then unprotect_of words
+    else if bytes_eq name (codes "id") then id_of words
+    else if bytes_eq name (codes "byid") then by_id_of words
+    else if bytes_eq name (codes "wset") then weak_set_of words
+    else if bytes_eq name (codes "wget") then weak_get_of words
+    else if bytes_eq name (codes "wkey") then weak_key_of words
+    else if bytes_eq name (codes "wsize") then weak_size_of words
+    else if bytes_eq name (codes "wdel") then weak_delete_of words
     else if bytes_eq name (codes "minor") then Some Minor
     else if bytes_eq name (codes "gc") then Some Gc
     else if bytes_eq name (codes "major") then Some Major
@@ -164,6 +201,15 @@ command_is words (Load root object index) (_, _, e, f, (_, _, e1, f1, (a, _, e2,
     rw (e, f, e1, e2, e3, f1.0, operand_is a object f2, f3.value) refl
 command_is words (Same left right) (_, _, e, f, (a, _, e1, f1, (b, _, e2, f2, _))) = rw (e, f, e1, e2, operand_is a left f1, operand_is b right f2) refl
 command_is words (Unprotect object) (_, _, e, f, (a, _, e1, f1, _)) = rw (e, f, e1, operand_is a object f1) refl
+command_is words (Id object) (_, _, e, f, (a, _, e1, f1, _)) = rw (e, f, e1, operand_is a object f1) refl
+command_is words (ById root id) (_, _, e, f, (_, _, e1, f1, (_, _, e2, f2, _))) = rw (e, f, e1, e2, f1.0, f2.value) refl
+command_is words (WeakSet weak key value) (_, _, e, f, (_, _, e1, f1, (a, _, e2, f2, (b, _, e3, f3, _)))) =
+    rw (e, f, e1, e2, e3, f1.0, operand_is a key f2, operand_is b value f3) refl
+command_is words (WeakGet root weak key) (_, _, e, f, (_, _, e1, f1, (_, _, e2, f2, (a, _, e3, f3, _)))) =
+    rw (e, f, e1, e2, e3, f1.0, f2.0, operand_is a key f3) refl
+command_is words (WeakKey weak key) (_, _, e, f, (_, _, e1, f1, (a, _, e2, f2, _))) = rw (e, f, e1, e2, f1.0, operand_is a key f2) refl
+command_is words (WeakSize weak) (_, _, e, f, (_, _, e1, f1, _)) = rw (e, f, e1, f1.0) refl
+command_is words (WeakDelete weak key) (_, _, e, f, (_, _, e1, f1, (a, _, e2, f2, _))) = rw (e, f, e1, e2, f1.0, operand_is a key f2) refl
 command_is words Minor (_, _, e, f, _) = rw (e, f) refl
 command_is words Gc (_, _, e, f, _) = rw (e, f) refl
 command_is words Major (_, _, e, f, _) = rw (e, f) refl

@@ -3,6 +3,7 @@
 #![tactic(auto)]
 
 mod collection_commands;
+mod id_commands;
 mod laws;
 mod line_buffer;
 mod line_end;
@@ -16,6 +17,7 @@ mod stack_commands;
 mod stat_line;
 #[cfg(test)]
 mod tests;
+mod weak_commands;
 mod words;
 mod writer;
 

@@ -5,11 +5,15 @@ ghost use Rattle.space_model.specs.Grammar.{without_cr, IsBlank, IsReading};
 ghost use Rattle.space_trace.specs.WordsLeft.{words_in, ReadsWords};
 
 use crate::collection_commands::{read_gc, read_minor, read_stat, read_sweep};
+use crate::id_commands::{read_by_id, read_id};
 use crate::marking_commands::{read_finish, read_major, read_mark};
 use crate::new_command::read_new;
 use crate::object_commands::{read_raw_store, read_same, read_store, read_unprotect};
 use crate::root_commands::{read_drop, read_load, read_set};
 use crate::stack_commands::{read_pop, read_push, read_raw};
+use crate::weak_commands::{
+    read_weak_delete, read_weak_get, read_weak_key, read_weak_set, read_weak_size,
+};
 use crate::words::next_word;
 use space_model::Command;
 
@@ -57,6 +61,13 @@ fn command_of_words(name: &[u8], rest: Option<&[u8]>) -> Option<Command>
         _ if name == b"load".as_slice() => read_load(rest),
         _ if name == b"same".as_slice() => read_same(rest),
         _ if name == b"unprotect".as_slice() => read_unprotect(rest),
+        _ if name == b"id".as_slice() => read_id(rest),
+        _ if name == b"byid".as_slice() => read_by_id(rest),
+        _ if name == b"wset".as_slice() => read_weak_set(rest),
+        _ if name == b"wget".as_slice() => read_weak_get(rest),
+        _ if name == b"wkey".as_slice() => read_weak_key(rest),
+        _ if name == b"wsize".as_slice() => read_weak_size(rest),
+        _ if name == b"wdel".as_slice() => read_weak_delete(rest),
         _ if name == b"minor".as_slice() => read_minor(rest),
         _ if name == b"gc".as_slice() => read_gc(rest),
         _ if name == b"major".as_slice() => read_major(rest),

@@ -6,7 +6,7 @@ use std::alloc::{AllocError as NoMemory, Global};
 use std::test::Fail;
 
 // The line, and how its command is spelled.
-const FORMS: [(&[u8], &[u8]); 41] = [
+const FORMS: [(&[u8], &[u8]); 55] = [
     (b"new a 3 P M", b"new a 3 P M\n"),
     (b"new a 79 P M", b"new a 79 P M\n"),
     (
@@ -52,6 +52,26 @@ const FORMS: [(&[u8], &[u8]); 41] = [
     (b"same a b\r", b"same a b\n"),
     (b"unprotect a", b"unprotect a\n"),
     (b"unprotect @0", b"unprotect @0\n"),
+    (b"id a", b"id a\n"),
+    (b"id @007\r", b"id @7\n"),
+    (b"byid a 0", b"byid a 0\n"),
+    (
+        b"byid a 18446744073709551615",
+        b"byid a 18446744073709551615\n",
+    ),
+    (b"byid a 008", b"byid a 8\n"),
+    (b"wset a b c", b"wset a b c\n"),
+    (b"wset m @0 @01", b"wset m @0 @1\n"),
+    (
+        b"wset a2345678901234567890123456789012 b2345678901234567890123456789012 c2345678901234567890123456789012",
+        b"wset a2345678901234567890123456789012 b2345678901234567890123456789012 c2345678901234567890123456789012\n",
+    ),
+    (b"wget a b c", b"wget a b c\n"),
+    (b"wget a m @2", b"wget a m @2\n"),
+    (b"wkey a b", b"wkey a b\n"),
+    (b"wkey m @3", b"wkey m @3\n"),
+    (b"wsize m", b"wsize m\n"),
+    (b"wdel a b\r", b"wdel a b\n"),
     (b"minor", b"minor\n"),
     (b"gc", b"gc\n"),
     (b"major", b"major\n"),
@@ -71,7 +91,7 @@ const FORMS: [(&[u8], &[u8]); 41] = [
 // Lines without a command.
 const BLANK: [&[u8]; 5] = [b"", b"\r", b";", b"; a comment", b";same a b\r"];
 
-const MALFORMED: [&[u8]; 64] = [
+const MALFORMED: [&[u8]; 85] = [
     b" ",
     b" ; a comment",
     b"\r\r",
@@ -110,6 +130,27 @@ const MALFORMED: [&[u8]; 64] = [
     b"unprotect",
     b"unprotect nil",
     b"unprotect a b",
+    b"id",
+    b"id nil",
+    b"id a b",
+    b"byid a",
+    b"byid @0 8",
+    b"byid a =8",
+    b"byid a 18446744073709551616",
+    b"wset m a",
+    b"wset m a nil",
+    b"wset m a b c",
+    b"wset @0 a b",
+    b"wget a m",
+    b"wget @0 m a",
+    b"wget a @0 b",
+    b"wkey m",
+    b"wkey m =1",
+    b"wsize",
+    b"wsize @0",
+    b"wsize m a",
+    b"wdel m nil",
+    b"wdel m a b",
     b"new a 000000000000000000001 P M",
     b"new a 0x1 P M",
     b"new nil 1 P M",
@@ -193,7 +234,7 @@ const MOST_COUNTS: Stat = Stat {
     total_moved_objects: u64::MAX,
 };
 
-const REPLIES: [(Reply, &[u8]); 28] = [
+const REPLIES: [(Reply, &[u8]); 32] = [
     (
         Reply::Made {
             name: 1,
@@ -247,6 +288,14 @@ const REPLIES: [(Reply, &[u8]); 28] = [
     ),
     (Reply::Truth { yes: true }, b"true\n"),
     (Reply::Truth { yes: false }, b"false\n"),
+    (Reply::Number { number: 0 }, b"0\n"),
+    (
+        Reply::Number {
+            number: 18446744073709551615,
+        },
+        b"18446744073709551615\n",
+    ),
+    (Reply::GoneId, b"gone\n"),
     (Reply::Scanned { count: 0 }, b"ok scanned 0\n"),
     (
         Reply::Scanned {
@@ -320,6 +369,7 @@ const REPLIES: [(Reply, &[u8]); 28] = [
         },
         b"error protected\n",
     ),
+    (Reply::Refused { why: Refusal::NoId }, b"error no id\n"),
     (
         Reply::Refused {
             why: Refusal::NotMarking,

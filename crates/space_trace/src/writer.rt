@@ -10,6 +10,7 @@ ghost use Rattle.space_model.specs.Texts.{kind_text, event_pieces, value_pieces,
 ghost use Rattle.space_trace.specs.StatReplies.{is_stat};
 
 use crate::collection_commands::{put_gc, put_minor, put_stat_command, put_sweep};
+use crate::id_commands::{put_by_id, put_id};
 use crate::line_buffer::LineBuffer;
 use crate::line_end::LineEnd;
 use crate::marking_commands::{put_finish, put_major, put_mark};
@@ -18,6 +19,9 @@ use crate::object_commands::{put_raw_store, put_same, put_store, put_unprotect};
 use crate::root_commands::{put_drop, put_load, put_set};
 use crate::stack_commands::{put_pop, put_push, put_raw};
 use crate::stat_line::{StatBuffer, put_stat};
+use crate::weak_commands::{
+    put_weak_delete, put_weak_get, put_weak_key, put_weak_set, put_weak_size,
+};
 use arrayvec::ArrayVec;
 use space_io::{Sink, WriteFault, write_all};
 use space_model::{Command, Event, Kind, Refusal, Reply, Stat, Value};
@@ -60,6 +64,13 @@ fn put_command(line: &mut LineBuffer, command: Command)
         } => put_load(line, root, object, index),
         Command::Same { left, right } => put_same(line, left, right),
         Command::Unprotect { object } => put_unprotect(line, object),
+        Command::Id { object } => put_id(line, object),
+        Command::ById { root, id } => put_by_id(line, root, id),
+        Command::WeakSet { weak, key, value } => put_weak_set(line, weak, key, value),
+        Command::WeakGet { root, weak, key } => put_weak_get(line, root, weak, key),
+        Command::WeakKey { weak, key } => put_weak_key(line, weak, key),
+        Command::WeakSize { weak } => put_weak_size(line, weak),
+        Command::WeakDelete { weak, key } => put_weak_delete(line, weak, key),
         Command::Minor => put_minor(line),
         Command::Gc => put_gc(line),
         Command::Major => put_major(line),
@@ -170,6 +181,7 @@ fn refusal_bytes(why: Refusal) -> &'static [u8]
         Refusal::NotObject => b"error not an object",
         Refusal::NoField => b"error no field",
         Refusal::Protected => b"error protected",
+        Refusal::NoId => b"error no id",
         Refusal::NotMarking => b"error not marking",
     }
 }
@@ -222,6 +234,8 @@ fn put_reply(line: &mut LineEnd, reply: &Reply)
         }
         Reply::Read { value } => put_value(line, *value),
         Reply::Truth { yes } => line.put(truth_bytes(*yes)),
+        Reply::Number { number } => line.put_decimal(*number),
+        Reply::GoneId => line.put(b"gone"),
         Reply::Scanned { count } => {
             line.put_decimal(*count);
             line.put(b"ok scanned ");

@@ -2,3 +2,4 @@ pub mod EntryLemmas
 pub mod SetLemmas
 pub mod WalkLemmas
 pub mod EntryLaws
+pub mod ModelEntries

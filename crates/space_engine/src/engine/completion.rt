@@ -8,7 +8,7 @@ ghost use Rattle.space_collector.specs.Quiescent.{CanCollect, most_slots};
 ghost use Rattle.space_engine.specs.HeapCollections.{AreTold, AreCut, HasJudged, IsHeapCompletion, IsTelling};
 ghost use Rattle.space_engine.specs.Ticks.{RisesByFewer};
 ghost use Rattle.space_engine.specs.Turns.{CanCompleteAndCollect};
-ghost use Rattle.space_engine.specs.Views.{with_heap};
+ghost use Rattle.space_engine.specs.Views.{with_completed, with_judged};
 
 use super::Engine;
 use space_collector::{Collected, collect, sweep_all, tell_gone};
@@ -16,6 +16,14 @@ use space_io::{Sink, WriteFault};
 use space_model::{Kind, Ledger, Phase, Steps};
 
 impl Engine {
+    /// No address is kept any more of the ids of what is gone, and no weak map has an entry of it.
+    pub fn purge(&mut self)
+        ensures { self.new ≡ with_judged self.old self.old.heap }
+    {
+        self.ids.purge(&self.heap);
+        self.weak.purge(&self.heap);
+    }
+
     /// Ends the marking that is under way: what it leaves unmarked is gone, and the lines of its verdict are written. The gone
     /// wait for a sweep.
     pub fn end_marking<K: Sink, L: Ledger>(
@@ -28,13 +36,14 @@ impl Engine {
         ensures done { IfOk result (λ ended. AreTold (IsTelling self.old.heap self.new.heap Major (root_words self.old.roots) self.old.stack ended.scans) ended.gone (K.written sink.old) (K.written sink.new)) }
         ensures fault { OnErr result (AreCut (λ events. (scans : ℕ) × IsTelling self.old.heap self.new.heap Major (root_words self.old.roots) self.old.stack scans events) (K.written sink.old) (K.written sink.new)) }
         ensures cause { HasCause (K.faults sink.old) (K.faults sink.new) result }
-        ensures rest { self.new ≡ with_heap self.old self.new.heap }
+        ensures rest { self.new ≡ with_judged self.old self.new.heap }
         ensures judged { HasJudged 0 1 0 self.old.heap self.new.heap }
         ensures few { IfOk result (λ ended. ended.gone ≤ most_slots) }
         ensures ticked { IfOk result (λ ended. steps.new ≡ steps.old + ended.scans) }
         ensures steps { RisesByFewer (2 ^ 27) steps.old steps.new }
     {
         let ended = collect(&mut self.heap, &self.roots, &self.stack, Kind::Major, steps);
+        self.purge();
         tell_gone(&self.heap, Kind::Major, ended.gone, sink)?;
         Ok(ended)
     }
@@ -51,7 +60,7 @@ impl Engine {
         ensures done { IfOk result (λ ended. AreTold (IsHeapCompletion self.old.heap self.new.heap (root_words self.old.roots) self.old.stack ended.scans) ended.gone (K.written sink.old) (K.written sink.new)) }
         ensures fault { OnErr result (AreCut (λ events. (scans : ℕ) × IsHeapCompletion self.old.heap self.new.heap (root_words self.old.roots) self.old.stack scans events) (K.written sink.old) (K.written sink.new)) }
         ensures cause { HasCause (K.faults sink.old) (K.faults sink.new) result }
-        ensures rest { self.new ≡ with_heap self.old self.new.heap }
+        ensures rest { self.new ≡ with_completed self.old self.new.heap }
         ensures idle { self.new.heap.phase ≡ Idle }
         ensures judged { HasJudged 0 1 most_slots self.old.heap self.new.heap }
         ensures few { IfOk result (λ ended. ended.gone ≤ most_slots) }

@@ -58,8 +58,8 @@ impl Engine {
         }
     }
 
-    // The address of the object of an operand.
-    fn address_of(&self, object: &Operand) -> Result<u64, Refusal>
+    /// The address of the object of an operand.
+    pub fn address_of(&self, object: &Operand) -> Result<u64, Refusal>
         ensures address { (s : State) → Holds self.now s → result ≡ named_address s.heap.place (and_then (operand_value s object.now) object_in) }
         ensures there { IfOk result (λ address. is_object self.now.heap address ≡ true) }
     {

@@ -1,12 +1,16 @@
 // The commands that write roots.
-ghost use Rattle.std.specs.Prelude.{◌≡◌, ◌≤◌, ◌<◌, ◌+◌, ◌^◌, None, OnOk, OnErr, is_some};
+ghost use Rattle.std.specs.Prelude.{◌≡◌, ◌≢◌, ◌<◌, ◌^◌, None, Some, OnOk, OnErr, is_some};
 ghost use Rattle.space_model.specs.declared.command.Command.TheVariants.{Set, DropRoot, Load};
+ghost use Rattle.space_model.specs.declared.reply.Refusal.{Refusal as TheRefusal};
+ghost use Rattle.space_model.specs.declared.reply.Reply.TheVariants.{Refused};
 ghost use Rattle.space_model.specs.CommandTexts.{IsWritableInput};
+ghost use Rattle.space_model.specs.declared.value.Value.{Value as TheValue};
+ghost use Rattle.space_model.specs.Operands.{word_value};
 ghost use Rattle.space_model.specs.State.{State};
 ghost use Rattle.space_roots.specs.WordRoots.{root_word};
 ghost use Rattle.space_engine.specs.Ticks.{IsReplyTicked};
 ghost use Rattle.space_engine.specs.Stands.{Holds};
-ghost use Rattle.space_engine.specs.Steps.{Answers};
+ghost use Rattle.space_engine.specs.Steps.{Answers, HandsOut};
 ghost use Rattle.space_engine.specs.Views.{with_root_written, with_root_dropped};
 
 use super::Engine;
@@ -61,6 +65,19 @@ impl Engine {
         }
     }
 
+    /// The root holds the word, and its value is told.
+    pub fn hand_out(&mut self, root: &Ident, word: u64) -> Reply
+        ensures written { (s : State) (value : TheValue) → Holds self.old s → word_value s.heap.place word ≡ Some value → HandsOut s self.new root.now value result }
+        ensures accepted { (why : TheRefusal) → result ≢ Refused why }
+        ensures heap { self.new.heap ≡ self.old.heap }
+    {
+        let value = self.value_of_word(word).unwrap_or(Value::Nil);
+        match self.put_root(root, word) {
+            Ok(()) => Reply::Read { value },
+            Err(_) => Reply::NoMemory,
+        }
+    }
+
     /// The root holds the value of a field.
     pub fn load<L: Ledger>(
         &mut self,
@@ -78,10 +95,6 @@ impl Engine {
             Ok(word) => word,
             Err(why) => return Reply::Refused { why },
         };
-        let value = self.value_of_word(word).unwrap_or(Value::Nil);
-        match self.put_root(root, word) {
-            Ok(()) => Reply::Read { value },
-            Err(_) => Reply::NoMemory,
-        }
+        self.hand_out(root, word)
     }
 }

@@ -1,13 +1,14 @@
 -- A marking is ended and then pages are swept, or pages alone are.
-use Rattle.std.proofs.Common.{rules, ◌≡◌, ◌≢◌, ap, ◌∙◌, subst}
+use Rattle.std.proofs.Common.{rules, ◌≡◌, ◌≢◌, sym, ap, ◌∙◌, subst}
 use Rattle.space_model.specs.declared.phase.Phase.TheVariants.{Idle, Marking, Sweeping}
 use Rattle.space_heap.specs.HeapView.{HeapView}
 use Rattle.space_heap.specs.SoundHeap.{IsSoundHeap}
 use Rattle.space_roots.specs.WordRoots.{root_words}
 use Rattle.space_collector.specs.declared.collection.Collected.{Collected}
 use Rattle.space_collector.specs.PagesSwept.{SweepsAll}
-use Rattle.space_engine.specs.Views.{View}
+use Rattle.space_engine.specs.Views.{View, with_heap}
 use Rattle.space_engine.proofs.Completing.{ended_done, ended_fault, ended_idle, swept_done, swept_idle}
+use Rattle.space_engine.proofs.Purges.{completed_is, completed_marking, completed_unmarked}
 use Rattle.space_engine.proofs.engine.Engine.complete.Goals.{then-eq, else-eq}
 use Rattle.space_engine.proofs.engine.Engine.complete.Goals as goal
 
@@ -65,4 +66,24 @@ returns-clause-idle g c = elim c.if-eq.branch [
       swept_idle old.heap c.sweep_all.new.heap (root_words old.roots) old.stack other sound sweeps c.requires.able.rests
       (subst (λ (heap : HeapView). heap.phase ≡ Sweeping → c.sweep_all.new.heap.phase ≡ Idle) same c.sweep_all.ensures.idle)
       (subst (λ (heap : HeapView). heap.phase ≢ Sweeping → c.sweep_all.new.heap ≡ heap) same c.sweep_all.ensures.same)
+]
+
+pub returns-clause-rest : goal.returns-clause-rest
+returns-clause-rest g c = elim c.if-eq.branch [
+  | then-eq w ↦
+      let old = c.args.self.now in
+      let new = c.sweep_all.new.heap in
+      let marking : old.heap.phase ≡ Marking = search rules in
+      let judged = ap (λ (v : View). v.heap) (c.self-2.view_is ∙ w.self-is) in
+      let sweeps = subst (λ (heap : HeapView). SweepsAll heap new) judged c.sweep_all.ensures.swept in
+      ap (λ (v : View). with_heap v new) (c.self-2.view_is ∙ w.self-is ∙ w.end_marking-ended.ensures.rest)
+      ∙ sym (completed_marking old w.end_marking-ended.new.self.heap new marking sweeps)
+      ∙ sym (completed_is old new)
+  | else-eq w ↦
+      let old = c.args.self.now in
+      let new = c.sweep_all.new.heap in
+      let other : old.heap.phase ≢ Marking = search rules in
+      ap (λ (v : View). with_heap v new) (c.self-2.view_is ∙ w.self-is)
+      ∙ sym (completed_unmarked old new other)
+      ∙ sym (completed_is old new)
 ]

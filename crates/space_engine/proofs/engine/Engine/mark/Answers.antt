@@ -1,6 +1,7 @@
 -- Scans of the marking that is under way are ones of each state that the space stands for.
 use Rattle.std.proofs.Common.{◌≡◌, ◌≢◌, rules}
 use Rattle.space_model.specs.declared.phase.Phase.TheVariants.{Marking}
+use Rattle.space_engine.specs.Inside.{view_of}
 use Rattle.space_engine.proofs.MarkCommand.{mark_done, mark_refused, turn_marked}
 use Rattle.space_engine.proofs.engine.Engine.mark.Goals as goal
 
@@ -13,7 +14,7 @@ pub returns-clause-answers : goal.returns-clause-answers
 returns-clause-answers g c =
     let marking : c.self.inside.heap.phase ≡ Marking = search rules in
     rw (← c.self.view_is)
-    (λ s h. mark_done (record { heap = c.self.inside.heap; roots = c.self.inside.roots; stack = c.self.inside.stack }) s h marking c.mark-marked.new.heap
+    (λ s h. mark_done (view_of c.self.inside) s h marking c.mark-marked.new.heap
     c.mark-marked.result.scanned c.mark-marked.ensures.goes_on c.mark-marked.ensures.coherent c.args.count c.mark-marked.result.grey
     c.mark-marked.ensures.few c.mark-marked.ensures.all c.mark-marked.ensures.grey)
 

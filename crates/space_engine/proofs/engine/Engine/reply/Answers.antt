@@ -40,3 +40,24 @@ returns-in-Sweep-clause-answers g c = λ s h. rw c.in-Sweep.is (c.sweep.ensures.
 
 pub returns-in-Stat-clause-answers : goal.returns-in-Stat-clause-answers
 returns-in-Stat-clause-answers g c = λ s h. rw c.in-Stat.is (c.stat.ensures.answers s h)
+
+pub returns-in-Id-clause-answers : goal.returns-in-Id-clause-answers
+returns-in-Id-clause-answers g c = λ s h. rw c.in-Id.is (c.id.ensures.answers s h)
+
+pub returns-in-ById-clause-answers : goal.returns-in-ById-clause-answers
+returns-in-ById-clause-answers g c = λ s h. rw c.in-ById.is (c.by_id.ensures.answers s h)
+
+pub returns-in-WeakSet-clause-answers : goal.returns-in-WeakSet-clause-answers
+returns-in-WeakSet-clause-answers g c = λ s h. rw c.in-WeakSet.is (c.weak_set.ensures.answers s h)
+
+pub returns-in-WeakGet-clause-answers : goal.returns-in-WeakGet-clause-answers
+returns-in-WeakGet-clause-answers g c = λ s h. rw c.in-WeakGet.is (c.weak_get.ensures.answers s h)
+
+pub returns-in-WeakKey-clause-answers : goal.returns-in-WeakKey-clause-answers
+returns-in-WeakKey-clause-answers g c = λ s h. rw c.in-WeakKey.is (c.weak_key.ensures.answers s h)
+
+pub returns-in-WeakSize-clause-answers : goal.returns-in-WeakSize-clause-answers
+returns-in-WeakSize-clause-answers g c = λ s h. rw c.in-WeakSize.is (c.weak_size.ensures.answers s h)
+
+pub returns-in-WeakDelete-clause-answers : goal.returns-in-WeakDelete-clause-answers
+returns-in-WeakDelete-clause-answers g c = λ s h. rw c.in-WeakDelete.is (c.weak_delete.ensures.answers s h)

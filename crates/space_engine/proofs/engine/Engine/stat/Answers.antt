@@ -7,6 +7,12 @@ returns c =
     rw (← c.self.view_is)
     (record {
       answers = λ s h.
-          stat_answered (record { heap = c.self.inside.heap; roots = c.self.inside.roots; stack = c.self.inside.stack }) s h c.counts_of-stat.ensures.sound
+          stat_answered (record {
+            heap = c.self.inside.heap;
+            roots = c.self.inside.roots;
+            stack = c.self.inside.stack;
+            ids = c.self.inside.ids;
+            weak = c.self.inside.weak;
+          }) s h c.counts_of-stat.ensures.sound
           c.counts_of-stat.result c.counts_of-stat.ensures.counts;
     })

@@ -1,14 +1,11 @@
 -- The address and the word, or the refusal that comes first.
-use Rattle.std.proofs.Common.{◌≡◌, ℕ, ◌∙◌, ap, Result, Ok}
+use Rattle.std.proofs.Common.{ℕ, ◌∙◌, ap, Result, Ok}
 use Rattle.std.proofs.lemmas.Result.{err_from_is_err_and}
 use Rattle.space_model.specs.declared.reply.Refusal.{Refusal}
-use Rattle.space_model.specs.Refusals.{and_then, both}
+use Rattle.space_model.specs.Refusals.{and_then}
 use Rattle.space_engine.proofs.FieldWords.{write_found, write_lost, operand_present}
+use Rattle.space_engine.proofs.WordResults.{same_both}
 use Rattle.space_engine.proofs.engine.Engine.write_place.Goals as goal
-
--- both words, by what they are
-same_both : (a b x y : Result ℕ Refusal) → a ≡ x → b ≡ y → both a b ≡ both x y
-same_both a b x y e f = ap (λ a. both a b) e ∙ ap (both x) f
 
 pub returns-clause-written : goal.returns-clause-written
 returns-clause-written c = λ s h.

@@ -1,0 +1,25 @@
+use Rattle.std.proofs.Common.{◌≡◌, ◌∙◌, ap, rules}
+use Rattle.space_heap.specs.HeapView.{HeapView}
+use Rattle.space_heap.specs.Objects.{object_of}
+use Rattle.space_heap.proofs.ObjectLaws.{occupied_from_object}
+use Rattle.space_engine.proofs.IdCommands.{id_told, id_lacking, id_refused}
+use Rattle.space_engine.proofs.engine.Engine.id.Goals as goal
+
+pub name-name-requires : goal.name-name-requires
+name-name-requires c = occupied_from_object c.self.inside.heap c.in-Ok.address (search rules)
+
+pub returns-in-Err-clause-answers : goal.returns-in-Err-clause-answers
+returns-in-Err-clause-answers c = λ s h. id_refused c.args.self.now s h c.args.object.now c.in-Err.why (c.in-Err.ensures.address s h)
+
+pub returns-in-Ok-give_id-clause-answers : goal.returns-in-Ok-give_id-clause-answers
+returns-in-Ok-give_id-clause-answers c = λ s h.
+    let heap : c.self.inside.heap ≡ c.args.self.now.heap = search rules in
+    let named = c.name-name.ensures ∙ ap (λ (heap : HeapView). (object_of heap c.in-Ok.address).name) heap in
+    id_told c.args.self.now s h _ c.args.object.now c.in-Ok.address _ _ (c.in-Ok.ensures.address s h) named c.in-Ok-give_id.ensures.ok c.in-Ok-give_id.ensures.id
+
+pub returns-in-Err-give_id-clause-answers : goal.returns-in-Err-give_id-clause-answers
+returns-in-Err-give_id-clause-answers c = λ s h.
+    let heap : c.self.inside.heap ≡ c.args.self.now.heap = search rules in
+    let named = c.name-name.ensures ∙ ap (λ (heap : HeapView). (object_of heap c.in-Ok.address).name) heap in
+    rw c.in-Err-give_id.ensures.err
+    (id_lacking c.args.self.now s h c.args.object.now c.in-Ok.address _ (c.in-Ok.ensures.address s h) named c.in-Err-give_id.ensures.absent)

@@ -1,0 +1,183 @@
+-- What a command does to the tables: ids stay, and entries of weak maps go with their keys and values.
+use Rattle.std.proofs.Common.{◌≡◌, ℕ, zero, suc, ◌+◌, ◌*◌, true, false, List, [], ◌∷◌, nat_eq, refl, sym, ap, ◌∙◌, subst, ⊎_elim, arith, Some}
+use Rattle.std.specs.Prelude.{◌↔◌, slice_get}
+use Rattle.std.specs.List.{IsDistinct, AllByRecursion}
+use Rattle.std.specs.Set.{is_member}
+use Rattle.std.proofs.lemmas.Bool.{false≢true, false_from_ne_true, true_from_ne_false, or_from, or_left, or_right, eq-eqb}
+use Rattle.std.proofs.lemmas.Map.Keys.{IsDistinct-head, IsDistinct-tail}
+use Rattle.space_model.specs.declared.command.Command.{Command}
+use Rattle.space_model.specs.declared.command.Command.TheVariants.{New, Minor, Gc, Major, Finish}
+use Rattle.space_model.specs.declared.event.Event.{Event}
+use Rattle.space_model.specs.declared.event.Kind.{Kind}
+use Rattle.space_model.specs.declared.event.Kind.TheVariants.{Minor as MinorKind, Full as FullKind}
+use Rattle.space_model.specs.declared.object.Guard.{Guard}
+use Rattle.space_model.specs.declared.object.Style.{Style}
+use Rattle.space_model.specs.declared.reply.Reply.{Reply}
+use Rattle.space_model.specs.declared.reply.Reply.TheVariants.{Made, Full, NoMemory, Scanned, Refused}
+use Rattle.space_model.specs.Collections.{Collects}
+use Rattle.space_model.specs.IdCommands.{IsIdOf}
+use Rattle.space_model.specs.Lawful.{Effects, Lawful}
+use Rattle.space_model.specs.Layout.{pool_for}
+use Rattle.space_model.specs.NewCommand.{stages_before_page, all_stages, AnswersNew}
+use Rattle.space_model.specs.Outputs.{Output, gone_in}
+use Rattle.space_model.specs.Pieces.{Born}
+use Rattle.space_model.specs.Sound.{Sound}
+use Rattle.space_model.specs.State.{State, Tables, is_present}
+use Rattle.space_model.specs.TableLaws.{ChangesMap}
+use Rattle.space_model.specs.WeakMaps.{weak_value, entries_left}
+use Rattle.space_model.proofs.EntryLaws.{all_left, left_value, value_left}
+use Rattle.space_model.proofs.Leaving.{Leaves, leaves_swept}
+use Rattle.space_model.proofs.MajorLaws.{major_leaves, finish_leaves}
+use Rattle.space_model.proofs.PlacesAfter.{lawful_told, gone_told}
+use Rattle.space_model.proofs.RepliedPieces.{AreIdsKept, IsPiece, Nothing, Root, Dropped, Stack, Field, Guard as GuardPiece, Tabled, Swept, Scans, replied_piece}
+use Rattle.space_model.proofs.Stages.{passed_leaves, place_leaves}
+use Rattle.space_model.proofs.TablesKept.{weak_key-present, weak_value-present}
+use Rattle.space_model.proofs.ToldNames.{gone_among}
+use Rattle.space_model.proofs.WholeLaws.{leaves_collection}
+
+-- the first of names that are there once isn't among the others
+head_apart : (name : ℕ) (names : List ℕ) → IsDistinct nat_eq (name ∷ names) → is_member nat_eq names name ≡ false
+head_apart name names once = none_among name names (IsDistinct-head nat_eq name names once)
+  where
+    none_among : (name : ℕ) (names : List ℕ) → AllByRecursion (λ other. nat_eq name other ≡ false) names → is_member nat_eq names name ≡ false
+    none_among name [] h = refl
+    none_among name (other ∷ names) h = or_from _ _ h.0 (none_among name names h.1)
+
+get_member : (names : List ℕ) (k name : ℕ) → slice_get names k ≡ Some name → is_member nat_eq names name ≡ true
+get_member [] k name e = absurd (cc)
+get_member (n ∷ names) zero name e = or_left _ _ (eq-eqb name n (sym (let same : n ≡ name = cc in same)))
+get_member (n ∷ names) (suc k) name e = or_right (nat_eq name n) _ (get_member names k name e)
+
+-- each id stays, and a map that the command doesn't change has the entries that are left of it
+record TablesAfter (command : Command) (s : State) (events : List Event) (t : State) : Type 0 where
+  ids : AreIdsKept s.tables.ids t.tables.ids
+  values : (weak : List ℕ) (key : ℕ) → (ChangesMap command weak → ⊥) →
+      weak_value t.tables.weak weak key ≡ weak_value (entries_left (gone_among events) s.tables.weak) weak key
+
+module _ (command : Command) (s t : State) (events : List Event) where
+  -- after work of the collector
+  worked : Leaves s events t → TablesAfter command s events t
+  worked h = record {
+    ids = λ k name e. ap (λ ids. slice_get ids k) h.ids ∙ e;
+    values = λ weak key other.
+        ap (λ entries. weak_value entries weak key) (h.weak ∙ ap (λ names. entries_left names s.tables.weak) (sym h.told));
+  }
+
+  -- where nothing goes
+  same_tables : events ≡ [] → t.tables ≡ s.tables → TablesAfter command s events t
+  same_tables none same = subst (λ events. TablesAfter command s events t) (sym none) (record {
+    ids = λ k name e. ap (λ (tables : Tables). slice_get tables.ids k) same ∙ e;
+    values = λ weak key other.
+        ap (λ (tables : Tables). weak_value tables.weak weak key) same ∙ ap (λ entries. weak_value entries weak key) (sym (all_left s.tables.weak));
+  })
+
+  same_state : events ≡ [] → t ≡ s → TablesAfter command s events t
+  same_state none same = same_tables none (ap (λ (u : State). u.tables) same)
+
+  piece_tables : events ≡ [] → IsPiece command s t → TablesAfter command s events t
+  piece_tables none (Nothing same) = same_state none same
+  piece_tables none (Root root value ident valid after) = same_tables none (ap (λ (u : State). u.tables) after)
+  piece_tables none (Dropped root after) = same_tables none (ap (λ (u : State). u.tables) after)
+  piece_tables none (Stack words after) = same_tables none (ap (λ (u : State). u.tables) after)
+  piece_tables none (Field name index value object valid reached after) = same_tables none (ap (λ (u : State). u.tables) after)
+  piece_tables none (GuardPiece name object after) = same_tables none (ap (λ (u : State). u.tables) after)
+  piece_tables none (Tabled tables sound ids maps after) = subst (λ events. TablesAfter command s events t) (sym none) (record {
+    ids = λ k name e. ap (λ (u : State). slice_get u.tables.ids k) after ∙ ids k name e;
+    values = λ weak key other.
+        ap (λ (u : State). weak_value u.tables.weak weak key) after
+        ∙ maps weak key other
+        ∙ ap (λ entries. weak_value entries weak key) (sym (all_left s.tables.weak));
+  })
+  piece_tables none (Swept pages freed sweeps) = worked (subst (λ events. Leaves s events t) (sym none) (leaves_swept pages s t freed sweeps))
+  piece_tables none (Scans scans few after) = same_tables none (ap (λ (u : State). u.tables) after)
+
+  -- an object is made after work of the collector
+  made_tables : (ready : State) (root : List ℕ) (fields : ℕ) (guard : Guard) (style : Style) (address : ℕ) → Leaves s events ready →
+      Born ready root fields guard style address t → TablesAfter command s events t
+  made_tables ready root fields guard style address h born = record {
+    ids = λ k name e. ap (λ (u : State). slice_get u.tables.ids k) born ∙ ap (λ ids. slice_get ids k) h.ids ∙ e;
+    values = λ weak key other.
+        ap (λ (u : State). weak_value u.tables.weak weak key) born
+        ∙ ap (λ entries. weak_value entries weak key) (h.weak ∙ ap (λ names. entries_left names s.tables.weak) (sym h.told));
+  }
+
+  new_tables : (root : List ℕ) (fields : ℕ) (guard : Guard) (style : Style) (reply : Reply) → AnswersNew s root fields guard style events reply t →
+      TablesAfter command s events t
+  new_tables root fields guard style (Made name address) e =
+      made_tables e.ready root fields guard style address (place_leaves s (pool_for fields) events e.ready address e.place) e.made
+  new_tables root fields guard style Full e = worked (passed_leaves all_stages s (pool_for fields) events t e.passed)
+  new_tables root fields guard style NoMemory e = ⊎_elim
+      (λ lacks. same_state lacks.silent lacks.unchanged)
+      (λ lacks. worked (passed_leaves stages_before_page s (pool_for fields) events t lacks.passed))
+      e.1
+  new_tables root fields guard style (Refused why) e = same_state e.2 e.3
+  new_tables root fields guard style _ e = absurd e
+
+  collects_tables : (kind : Kind) (reply : Reply) → Collects s kind events reply t → TablesAfter command s events t
+  collects_tables kind (Scanned scans) e = worked (leaves_collection s t kind events scans e)
+  collects_tables kind _ e = absurd e
+
+effects_tables : (s t : State) (command : Command) (events : List Event) (answer : List Output) → Effects s command events answer t →
+    TablesAfter command s events t
+effects_tables s t (New root fields guard style) events answer e =
+    new_tables (New root fields guard style) s t events root fields guard style e.reply e.is
+effects_tables s t Minor events answer e = collects_tables Minor s t events MinorKind e.reply e.is
+effects_tables s t Gc events answer e = collects_tables Gc s t events FullKind e.reply e.is
+effects_tables s t Major events answer e = worked Major s t events (major_leaves s t events e.reply e.is)
+effects_tables s t Finish events answer e = worked Finish s t events (finish_leaves s t events e.reply e.is)
+effects_tables s t command events answer e = piece_tables command s t events e.0 (replied_piece s t command e.1.reply e.1.is)
+
+pub ids_stay : (s t : State) (command : Command) (outputs : List Output) → Lawful s command outputs t → (name id : ℕ) → IsIdOf s.tables.ids name id →
+    IsIdOf t.tables.ids name id
+ids_stay s t command outputs l name id (k, at, is) = (k, (effects_tables s t command l.events l.answer l.effects).ids k name at, is)
+
+not_later : (name : ℕ) (names : List ℕ) (k : ℕ) → is_member nat_eq names name ≡ false → slice_get names k ≡ Some name → ⊥
+not_later name names k out at = false≢true (sym out ∙ get_member names k name at)
+
+-- a name stands at one place
+same_place : (names : List ℕ) (k j name : ℕ) → IsDistinct nat_eq names → slice_get names k ≡ Some name → slice_get names j ≡ Some name → k ≡ j
+same_place [] k j name once at from = absurd (cc)
+same_place (n ∷ names) zero zero name once at from = refl
+same_place (n ∷ names) zero (suc j) name once at from =
+    let same : n ≡ name = cc in
+    absurd (not_later n names j (head_apart n names once) (from ∙ ap Some (sym same)))
+same_place (n ∷ names) (suc k) zero name once at from =
+    let same : n ≡ name = cc in
+    absurd (not_later n names k (head_apart n names once) (at ∙ ap Some (sym same)))
+same_place (n ∷ names) (suc k) (suc j) name once at from = ap suc (same_place names k j name (IsDistinct-tail nat_eq n names once) at from)
+
+pub ids_one : (s : State) (name other id next : ℕ) → Sound s → IsIdOf s.tables.ids name id → IsIdOf s.tables.ids other next → (name ≡ other) ↔ (id ≡ next)
+ids_one s name other id next h (k, at, is) (j, from, was) = (
+  (λ e. is ∙ ap (λ k. 8 * (k + 1)) (same_place s.tables.ids k j other h.ids.once (at ∙ ap Some e) from) ∙ sym was),
+  (λ e.
+      let same : k ≡ j = omega (arith, is, was, e) in
+      let found : Some name ≡ Some other = sym at ∙ ap (slice_get s.tables.ids) same ∙ from in
+      cc),
+)
+
+module _ (s t : State) (command : Command) (outputs : List Output) (l : Lawful s command outputs t) (h : Sound s) where
+  gone : ℕ → Type 0
+  gone n = is_member nat_eq (gone_in outputs) n ≡ true
+
+  there : (n : ℕ) → is_present s n ≡ true → is_member nat_eq (gone_among l.events) n ≡ false → is_present t n ≡ true
+  there n p out = true_from_ne_false _ (λ absent.
+      false≢true (sym out ∙ ap (λ names. is_member nat_eq names n) (sym (gone_told s t command outputs l)) ∙ (lawful_told s t command outputs l h n).1 (p, absent)))
+
+  stays : (n : ℕ) → is_present t n ≡ true → is_member nat_eq (gone_among l.events) n ≡ false
+  stays n p = false_from_ne_true _ (λ taken.
+      let both = (lawful_told s t command outputs l h n).0 (ap (λ names. is_member nat_eq names n) (gone_told s t command outputs l) ∙ taken) in
+      false≢true (sym both.1 ∙ p))
+
+  pub entries_go : (weak : List ℕ) → (ChangesMap command weak → ⊥) → (key value : ℕ) →
+      (weak_value t.tables.weak weak key ≡ Some value)
+      ↔ ((weak_value s.tables.weak weak key ≡ Some value) × (is_present t key ≡ true) × (is_present t value ≡ true))
+  entries_go weak other key value =
+      let same = (effects_tables s t command l.events l.answer l.effects).values weak key other in (
+        (λ e.
+            let (before, k, v) = left_value s.heap.place (gone_among l.events) s.tables.weak weak key value h.weak (sym same ∙ e) in (
+              before,
+              there key (weak_key-present s.heap.place s.tables.weak weak key value before h.weak) k,
+              there value (weak_value-present s.heap.place s.tables.weak weak key value before h.weak) v,
+            )),
+        (λ (before, k, v). same ∙ value_left (gone_among l.events) s.tables.weak weak key value before (stays key k) (stays value v)),
+      )
