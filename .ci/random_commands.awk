@@ -1,4 +1,5 @@
 # Writes 10,000 random commands of a trace, always the same ones: the numbers are those of Park and Miller's minimal standard generator (1988).
+# What no collection changes is asked for, and nothing else: so of object ids and weak maps only what rests on objects that are reached.
 # The last quarter of each thousand makes large objects, until a heap of three pages has no room for one while a marking is under way.
 
 # A number from 0 to n - 1.
@@ -24,6 +25,11 @@ function loaded() {
 function operand(    pick) {
     pick = below(12)
     return pick == 0 && depth > 0 ? "@" below(depth) : pick < 4 ? loaded() : root()
+}
+
+# A root of an object to which it always leads.
+function lasting() {
+    return "lasting" below(3)
 }
 
 function value(    pick) {
@@ -55,9 +61,35 @@ function hide(    object, way) {
     say("drop child")
 }
 
+# Ids are given to anything, and looked up only of lasting objects; the one of 99992 is never given.
+function identify(    pick) {
+    pick = below(8)
+    if (pick < 5) say("id " operand())
+    else if (pick < 6) say("id " lasting())
+    else if (pick < 7) say("byid " loaded() " " 8 * (below(3) + 1))
+    else say("byid " loaded() " " (below(2) == 0 ? below(8) : 99992))
+}
+
+# The map `lasting` has only lasting objects, and `valued` only values that are, so their entries stay where keys can be asked for. Of `loose` entries
+# go when a collection takes their objects, so it isn't read.
+function weak(    pick) {
+    pick = below(12)
+    if (pick < 2) say("wset lasting " lasting() " " lasting())
+    else if (pick < 3) say("wget " loaded() " lasting " lasting())
+    else if (pick < 4) say("wsize lasting")
+    else if (pick < 5) say("wdel lasting " lasting())
+    else if (pick < 7) say("wset valued " operand() " " lasting())
+    else if (pick < 8) say("wget " loaded() " valued " operand())
+    else if (pick < 9) say("wkey valued " operand())
+    else if (pick < 10) say("wdel valued " operand())
+    else say("wset loose " operand() " " operand())
+}
+
 function mutate(    pick) {
-    pick = below(100)
-    if (pick < 12) make(root(), substr("233338888", below(9) + 1, 1))
+    pick = below(112)
+    if (pick >= 106) weak()
+    else if (pick >= 100) identify()
+    else if (pick < 12) make(root(), substr("233338888", below(9) + 1, 1))
     else if (pick < 20) hide()
     else if (pick < 38) say("store " operand() " " below(3) " " value())
     else if (pick < 46) say("rawstore " operand() " " below(3) " " value())
@@ -81,6 +113,10 @@ function collect(    pick) {
 
 BEGIN {
     seed = 3
+    for (k = 0; k < 3; k++) {
+        make("lasting" k, 2)
+        say("id lasting" k)
+    }
     while (number < 10000) {
         was_crowded = is_crowded
         is_crowded = number % 1000 >= 750

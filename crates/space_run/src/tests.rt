@@ -3,10 +3,12 @@ mod collections;
 mod completion;
 mod ends;
 mod generations;
+mod ids;
 mod marking;
 mod objects;
 mod stack;
 mod sweeping;
+mod weak_maps;
 
 use crate::run;
 use space_io::{MemorySink, MemorySource};
