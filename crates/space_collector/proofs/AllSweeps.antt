@@ -12,7 +12,8 @@ use Rattle.space_heap.proofs.GoneCounts.{gone_on_page}
 use Rattle.space_sweep.specs.Sweeps.{SweepsFirst, phase_left}
 use Rattle.space_sweep.proofs.GoneWaits.{none_gone_waiting}
 use Rattle.space_collector.specs.GoneNames.{gone_names, name_at}
-use Rattle.space_collector.specs.PagesSwept.{SweepsPages, SweepsAll, LeavesRest}
+use Rattle.space_collector.specs.PagesSwept.{LeavesRest}
+use Rattle.space_collector.proofs.HeapSweeps.{HeapSweeps}
 use Rattle.space_collector.specs.Quiescent.{IsQuiescent, most_slots}
 use Rattle.space_collector.proofs.GoneLists.{none_gone_below}
 use Rattle.space_collector.proofs.PageSweeps.{unswept-first, fewer_wait, freed-first, freed_most-first, gone-first, quiescent-first}
@@ -29,13 +30,6 @@ unswept_most v sound =
     let limited = sound.limited in
     let most = sound.most in
     omega arith
-
--- one page more
-pub sweeps_more : (pages : ℕ) (v w z : HeapView) (freed : ℕ) → SweepsPages pages v w → SweepsFirst w z freed → SweepsPages (pages + 1) v z
-sweeps_more zero v w z freed same s = (freed, z, subst (λ (w : HeapView). SweepsFirst w z freed) same s, refl)
-sweeps_more (suc pages) v w z freed (now, mid, first, then) s =
-    let n : suc pages + 1 ≡ suc (pages + 1) = omega arith in
-    subst (λ k. SweepsPages k v z) (sym n) (now, mid, first, sweeps_more pages mid w z freed then s)
 
 -- what holds after so many sweeps
 pub record IsRun (pages : ℕ) (v w : HeapView) : Type 0 where
@@ -74,31 +68,31 @@ run_after pages v mid w freed s sound then =
     }
 
 -- it holds where every heap that a page is swept of is sound
-pub run : (pages : ℕ) (v w : HeapView) → (0 < pages → IsSoundHeap v) → SweepsPages pages v w → IsRun pages v w
+pub run : (pages : ℕ) (v w : HeapView) → (0 < pages → IsSoundHeap v) → HeapSweeps pages v w → IsRun pages v w
 run zero v w sound same = subst (λ (w : HeapView). IsRun 0 v w) (sym same) (no_run v)
 run (suc pages) v w sound (freed, mid, first, others) =
     let began : IsSoundHeap v = sound (omega arith) in
     run_after pages v mid w freed first began (run pages mid w (λ more. sound-first v mid freed first began) others)
 
 -- sweeps keep what holds of every heap
-pub sound_pages : (pages : ℕ) (v w : HeapView) → IsSoundHeap v → SweepsPages pages v w → IsSoundHeap w
+pub sound_pages : (pages : ℕ) (v w : HeapView) → IsSoundHeap v → HeapSweeps pages v w → IsSoundHeap w
 sound_pages pages v w sound swept = (run pages v w (λ more. sound) swept).sound sound
 
 -- and that what is left to do shows in the phase
-pub quiescent_pages : (pages : ℕ) (v w : HeapView) → IsSoundHeap v → IsQuiescent v → SweepsPages pages v w → IsQuiescent w
+pub quiescent_pages : (pages : ℕ) (v w : HeapView) → IsSoundHeap v → IsQuiescent v → HeapSweeps pages v w → IsQuiescent w
 quiescent_pages pages v w sound quiescent swept = (run pages v w (λ more. sound) swept).quiescent quiescent
 
 -- and leave the rest as it was
-pub leaves_rest_pages : (pages : ℕ) (v w : HeapView) → IsSoundHeap v → SweepsPages pages v w → LeavesRest v w
+pub leaves_rest_pages : (pages : ℕ) (v w : HeapView) → IsSoundHeap v → HeapSweeps pages v w → LeavesRest v w
 leaves_rest_pages pages v w sound swept = (run pages v w (λ more. sound) swept).rest
 
 -- where the heap is sound after sweeps it was so before
-pub began_sound : (pages : ℕ) (v w : HeapView) → (0 < pages → IsSoundHeap v) → SweepsPages pages v w → IsSoundHeap w → IsSoundHeap v
+pub began_sound : (pages : ℕ) (v w : HeapView) → (0 < pages → IsSoundHeap v) → HeapSweeps pages v w → IsSoundHeap w → IsSoundHeap v
 began_sound zero v w sound same now = subst IsSoundHeap same now
 began_sound (suc pages) v w sound swept now = sound (omega arith)
 
 -- all sweeps free no more slots than a heap has
-pub freed_most : (pages : ℕ) (v w : HeapView) → (0 < pages → IsSoundHeap v) → SweepsPages pages v w → w.counters.freed ≤ v.counters.freed + most_slots
+pub freed_most : (pages : ℕ) (v w : HeapView) → (0 < pages → IsSoundHeap v) → HeapSweeps pages v w → w.counters.freed ≤ v.counters.freed + most_slots
 freed_most zero v w sound same = let kept = ap (λ (v : HeapView). v.counters.freed) same in omega arith
 freed_most (suc pages) v w sound swept =
     let all = run (suc pages) v w sound swept in
@@ -132,9 +126,5 @@ gone_most v sound quiescent =
     omega arith
 
 -- no counter but that of the freed slots changes
-pub sweeps_counters : (pages : ℕ) (v w : HeapView) → IsSoundHeap v → SweepsPages pages v w → w.counters ≡ record v.counters { freed = w.counters.freed }
+pub sweeps_counters : (pages : ℕ) (v w : HeapView) → IsSoundHeap v → HeapSweeps pages v w → w.counters ≡ record v.counters { freed = w.counters.freed }
 sweeps_counters pages v w sound swept = (leaves_rest_pages pages v w sound swept).counters
-
--- where no page waited nothing changed
-pub sweeps_none : (v w : HeapView) → v.unswept ≡ [] → SweepsAll v w → w ≡ v
-sweeps_none v w none swept = subst (λ pages. SweepsPages pages v w) (ap length none) swept

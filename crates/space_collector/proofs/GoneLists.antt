@@ -27,7 +27,7 @@ use Rattle.space_heap.proofs.SweptPages.{occupied_from_gone}
 use Rattle.space_collector.specs.GoneNames.{gone_below, gone_addresses, name_at, gone_names}
 
 -- a range in two parts
-range_split : (a m k : ℕ) → range_with_len a (m + k) ≡ range_with_len a m ++ range_with_len (a + m) k
+pub range_split : (a m k : ℕ) → range_with_len a (m + k) ≡ range_with_len a m ++ range_with_len (a + m) k
 range_split a zero k = let e : a ≡ a + 0 = omega arith in let n : 0 + k ≡ k = omega arith in ap (range_with_len a) n ∙ ap (λ b. range_with_len b k) e
 range_split a (suc m) k =
     let n : suc m + k ≡ suc (m + k) = omega arith in
@@ -35,18 +35,18 @@ range_split a (suc m) k =
     ap (range_with_len a) n ∙ ap (λ xs. a ∷ xs) (range_split (a + 1) m k ∙ ap (λ b. range_with_len (a + 1) m ++ range_with_len b k) e)
 
 -- a range of which nothing passes
-none_pass : (test : ℕ → Bool) (a n : ℕ) → ((b : ℕ) → a ≤ b → b < a + n → test b ≡ false) → filter test (range_with_len a n) ≡ []
+pub none_pass : (test : ℕ → Bool) (a n : ℕ) → ((b : ℕ) → a ≤ b → b < a + n → test b ≡ false) → filter test (range_with_len a n) ≡ []
 none_pass test a zero h = refl
 none_pass test a (suc n) h =
     cond-false (test a) (a ∷ filter test (range_with_len (a + 1) n)) (filter test (range_with_len (a + 1) n)) (h a (omega arith) (omega arith))
     ∙ none_pass test (a + 1) n (λ b there below. h b (omega arith) (omega arith))
 
-member_range : (a n k : ℕ) → is_member nat_eq (range_with_len a n) k ≡ (nat_le a k && nat_lt k (a + n))
+pub member_range : (a n k : ℕ) → is_member nat_eq (range_with_len a n) k ≡ (nat_le a k && nat_lt k (a + n))
 member_range a zero k = grind (arith, nat_tests)
 member_range a (suc n) k = grind (arith, nat_tests, member_range (a + 1) n k)
 
 -- a range ascends
-rising_range : (a n : ℕ) → AllPairs (λ x y. x < y) (range_with_len a n)
+pub rising_range : (a n : ℕ) → AllPairs (λ x y. x < y) (range_with_len a n)
 rising_range a n i j d lt within =
     let long = length-range_with_len a n in
     let first : get_or (range_with_len a n) i d ≡ a + i = get_or-range_with_len a n i d (omega arith) in

@@ -3,6 +3,8 @@ pub mod GoneLists
 pub mod PageSweeps
 pub mod SoundSweeps
 pub mod RestLaws
+pub mod GoneOnPages
+pub mod HeapSweeps
 pub mod AllSweeps
 pub mod NeededSweeps
 pub mod HeapVerdictLaws

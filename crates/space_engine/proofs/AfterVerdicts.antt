@@ -359,4 +359,5 @@ module _ (v : View) (s : State) (h : Represents v s) (clean : HasNoGone v.heap) 
         stack = h.stack;
         ids = ids_judged s.heap.place taken v.heap w leads live_left s.tables.ids v.ids h.ids;
         weak = weak_judged s.heap.place taken v.heap w leads live_left s.tables.weak v.weak sound h.weak;
+        finals = h.finals;
       }

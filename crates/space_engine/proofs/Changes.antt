@@ -49,6 +49,7 @@ module _ (v : View) (s : State) (h : Holds v s) where
     stack = h.represents.stack;
     ids = h.represents.ids;
     weak = h.represents.weak;
+    finals = h.represents.finals;
   }
 
   -- a root was taken away
@@ -62,6 +63,7 @@ module _ (v : View) (s : State) (h : Holds v s) where
     stack = h.represents.stack;
     ids = h.represents.ids;
     weak = h.represents.weak;
+    finals = h.represents.finals;
   }
 
   -- the stack has other words
@@ -74,4 +76,5 @@ module _ (v : View) (s : State) (h : Holds v s) where
     stack = refl;
     ids = h.represents.ids;
     weak = h.represents.weak;
+    finals = h.represents.finals;
   }

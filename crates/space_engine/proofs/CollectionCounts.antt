@@ -1,5 +1,5 @@
 -- How far verdicts, and the sweeps before and after them, change a heap's counts, and that nothing but a sweep is under way after them.
-use Rattle.std.proofs.Common.{◌≡◌, ◌≢◌, ◌⊎◌, ℕ, ◌+◌, ◌≤◌, List, refl, ap, ◌∙◌, arith, ⊎_elim}
+use Rattle.std.proofs.Common.{◌≡◌, ◌≢◌, ◌⊎◌, ℕ, ◌+◌, ◌*◌, ◌≤◌, List, refl, sym, ap, ◌∙◌, arith, ⊎_elim}
 use Rattle.space_model.specs.declared.event.Kind.{Kind}
 use Rattle.space_model.specs.declared.event.Kind.TheVariants.{Minor, Major, Full}
 use Rattle.space_model.specs.declared.phase.Phase.{Phase}
@@ -7,9 +7,11 @@ use Rattle.space_model.specs.declared.phase.Phase.TheVariants.{Idle, Sweeping, M
 use Rattle.space_heap.specs.HeapView.{Counters, HeapView}
 use Rattle.space_heap.specs.Sweeping.{minors_after, others_after}
 use Rattle.space_collector.specs.HeapVerdicts.{IsHeapVerdict}
+use Rattle.space_collector.specs.PagesSwept.{LeavesRest}
 use Rattle.space_collector.specs.Quiescent.{IsQuiescent, most_slots, phase_before}
 use Rattle.space_collector.proofs.HeapVerdictLaws.{counters-verdict, count-verdict, limit-verdict, phase-verdict}
 use Rattle.space_engine.specs.HeapCollections.{HasJudged}
+use Rattle.space_engine.specs.Turns.{IsAtRest}
 
 -- after a verdict pages wait for a sweep, or nothing is under way
 rests_settled : (phase : Phase) → (phase ≡ Idle) ⊎ (phase ≡ Sweeping) → (phase ≢ Moving) × (phase ≢ Fixing)
@@ -85,6 +87,37 @@ module _ (v w : HeapView) (kind : Kind) (roots stack : List ℕ) (scans : ℕ) (
 -- the end of a marking
 pub major_judged : (v w : HeapView) (roots stack : List ℕ) (scans : ℕ) → IsHeapVerdict v w Major roots stack scans → IsQuiescent w → HasJudged 0 1 0 v w
 major_judged v w roots stack scans verdict quiescent = judged_by v w Major roots stack scans verdict quiescent 0 1 (omega arith) (omega arith)
+
+-- sweeps free slots alone
+swept_judged : (v w : HeapView) → LeavesRest v w → w.counters.freed ≤ v.counters.freed + most_slots → IsQuiescent w → IsAtRest v →
+    HasJudged 0 0 most_slots v w
+swept_judged v w leaves freed quiescent rests =
+    let minors = ap (λ (c : Counters). c.minor_verdicts) leaves.counters in
+    let others = ap (λ (c : Counters). c.other_verdicts) leaves.counters in
+    record {
+      born = ap (λ (c : Counters). c.born) leaves.counters;
+      minor_verdicts = omega arith;
+      other_verdicts = omega arith;
+      freed = freed;
+      page_count = leaves.page_count;
+      limit = leaves.limit;
+      quiescent = quiescent;
+      rests = (
+        λ e. ⊎_elim (λ same. rests.0 (sym same ∙ e)) (λ idle. cc) leaves.phase,
+        λ e. ⊎_elim (λ same. rests.1 (sym same ∙ e)) (λ idle. cc) leaves.phase,
+      );
+    }
+
+-- after a completion a whole verdict and the sweeps of all pages make what `exit` does to a heap
+pub exit_judged : (old idle judged new : HeapView) (roots stack : List ℕ) (scans : ℕ) → HasJudged 0 1 most_slots old idle →
+    IsHeapVerdict idle judged Full roots stack scans → IsQuiescent judged → LeavesRest judged new →
+    new.counters.freed ≤ judged.counters.freed + most_slots → IsQuiescent new → HasJudged 0 2 (2 * most_slots) old new
+exit_judged old idle judged new roots stack scans first verdict quiescent leaves freed quiescent_after =
+    let second = judged_by idle judged Full roots stack scans verdict quiescent 0 1 (omega arith) (omega arith) in
+    let third = swept_judged judged new leaves freed quiescent_after second.rests in
+    judged_both old judged new 0 0 0 2 0 2 most_slots most_slots (2 * most_slots)
+    (judged_both old idle judged 0 0 0 1 1 2 most_slots 0 most_slots first second (omega arith) (omega arith) (omega arith))
+    third (omega arith) (omega arith) (omega arith)
 
 -- where nothing is under way a marking of each other kind may begin
 pub begins_idle : (kind : Kind) (phase : Phase) → kind ≢ Major → phase ≡ Idle → phase ≡ phase_before kind

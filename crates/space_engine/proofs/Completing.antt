@@ -8,23 +8,27 @@ use Rattle.std.proofs.lemmas.Result.{IfOk-weaker, on_err_weaker}
 use Rattle.space_io.specs.Sinks.{AppendsPrefix}
 use Rattle.space_model.specs.declared.event.Event.{Event}
 use Rattle.space_model.specs.declared.event.Kind.{Kind}
-use Rattle.space_model.specs.declared.event.Kind.TheVariants.{Major}
+use Rattle.space_model.specs.declared.event.Kind.TheVariants.{Major, Full}
 use Rattle.space_model.specs.declared.phase.Phase.TheVariants.{Idle, Marking, Sweeping}
 use Rattle.space_model.specs.Outputs.{Told}
 use Rattle.space_model.specs.Texts.{text_of}
 use Rattle.space_model.specs.Verdicts.{verdict_events}
+use Rattle.space_finals.specs.FinalLists.{FinalLists}
 use Rattle.space_heap.specs.HeapView.{HeapView}
 use Rattle.space_heap.specs.SoundHeap.{IsSoundHeap}
+use Rattle.space_roots.specs.WordRoots.{root_words}
 use Rattle.space_collector.specs.GoneNames.{gone_names}
 use Rattle.space_collector.specs.HeapVerdicts.{IsHeapVerdict}
 use Rattle.space_collector.specs.PagesSwept.{SweepsAll}
 use Rattle.space_collector.proofs.HeapVerdictLaws.{phase-verdict}
 use Rattle.space_collector.proofs.ToldLines.{text_of-append, prefix_after, prefix_longer}
 use Rattle.space_engine.specs.Counting.{no_counts}
-use Rattle.space_engine.specs.HeapCollections.{IsTelling, IsHeapCompletion, IsHeapCollection, IsTickedCollection, AreTold, AreCut}
+use Rattle.space_engine.specs.HeapCollections.{IsTelling, IsHeapCompletion, IsHeapCollection, IsTickedCollection, IsHeapExit, IsTickedExit, AreTold, AreCut}
 use Rattle.space_engine.specs.Turns.{IsAtRest}
+use Rattle.space_engine.specs.Views.{View, with_judged}
 use Rattle.space_engine.proofs.Collecting.{phase_at_rest}
 use Rattle.space_engine.proofs.OutputLists.{counted_names, counted_both}
+use Rattle.space_engine.proofs.Purges.{completed_view}
 
 -- what is so of events is so of those that were written
 told_weaker : (P Q : List Event → Type 0) (gone : ℕ) (before after : Option (List ℕ)) → ((events : List Event) → P events → Q events) →
@@ -48,14 +52,21 @@ telling_told old new kind roots stack scans gone before after verdict few many w
   written = written;
 }
 
+-- a verdict left all but ids and weak maps as it was, so the sweeps after it queue the finalizers from before
+pub sweeps_judged : (old before judged : View) (idle : HeapView) (g : FinalLists) → before ≡ judged → judged ≡ with_judged old judged.heap →
+    SweepsAll before.heap before.finals idle g → SweepsAll judged.heap old.finals idle g
+sweeps_judged old before judged idle g same rest sweeps =
+    let finals : judged.finals ≡ old.finals = ap (λ (v : View). v.finals) rest in
+    subst (λ f. SweepsAll judged.heap f idle g) finals (subst (λ (v : View). SweepsAll v.heap v.finals idle g) same sweeps)
+
 -- a marking was ended, which left the heap `judged`, and then every page was swept
-module _ (old judged idle : HeapView) (roots stack : List ℕ) (marking : old.phase ≡ Marking) (sweeps : SweepsAll judged idle) {T E : Type 0}
-    (result : Result T E) (scans gone : T → ℕ) (before after : Option (List ℕ)) where
+module _ (old judged : HeapView) (f : FinalLists) (idle : HeapView) (g : FinalLists) (roots stack : List ℕ) (marking : old.phase ≡ Marking)
+    (sweeps : SweepsAll judged f idle g) {T E : Type 0} (result : Result T E) (scans gone : T → ℕ) (before after : Option (List ℕ)) where
   abbrev Tells : ℕ → List Event → Type 0
   Tells scans events = IsTelling old judged Major roots stack scans events
 
   abbrev Completes : ℕ → List Event → Type 0
-  Completes scans events = IsHeapCompletion old idle roots stack scans events
+  Completes scans events = IsHeapCompletion old f idle g roots stack scans events
 
   ends : (scans : ℕ) (events : List Event) → Tells scans events → Completes scans events
   ends scans events t = record {
@@ -89,8 +100,9 @@ module _ (old judged idle : HeapView) (roots stack : List ℕ) (marking : old.ph
       idle_by (Err fault) told cut = by_verdict cut.are.0 cut.events cut.are.1
 
 -- outside a marking every page was swept, and nothing else was done
-module _ (old idle : HeapView) (roots stack : List ℕ) (other : old.phase ≢ Marking) (sound : IsSoundHeap old) (sweeps : SweepsAll old idle) where
-  pub swept_done : (before : Option (List ℕ)) → AreTold (IsHeapCompletion old idle roots stack 0) 0 before before
+module _ (old : HeapView) (f : FinalLists) (idle : HeapView) (g : FinalLists) (roots stack : List ℕ) (other : old.phase ≢ Marking)
+    (sound : IsSoundHeap old) (sweeps : SweepsAll old f idle g) where
+  pub swept_done : (before : Option (List ℕ)) → AreTold (IsHeapCompletion old f idle g roots stack 0) 0 before before
   swept_done before = record {
     events = [];
     are = record {
@@ -107,14 +119,68 @@ module _ (old idle : HeapView) (roots stack : List ℕ) (other : old.phase ≢ M
       (⊎_elim (λ marking. absurd (other marking)) swept)
       (phase_at_rest old.phase rests.0 rests.1)
 
+-- a verdict after a completion is one by the roots and the stack from before both
+pub verdict_after : (old before mid : View) (new : HeapView) (kind : Kind) (scans : ℕ) → before ≡ mid → mid ≡ completed_view old mid.heap mid.finals →
+    IsHeapVerdict before.heap new kind (root_words before.roots) before.stack scans →
+    IsHeapVerdict mid.heap new kind (root_words old.roots) old.stack scans
+verdict_after old before mid new kind scans same rest verdict =
+    subst (λ (u : View). IsHeapVerdict u.heap new kind (root_words u.roots) u.stack scans) rest
+    (subst (λ (u : View). IsHeapVerdict u.heap new kind (root_words u.roots) u.stack scans) same verdict)
+
+-- a completion, and then the lines of a verdict of the kind, which left the heap `judged`: what they come to together
+module _ (kind : Kind) (judged : HeapView) (P Q : List Event → Type 0)
+    (joins : (completion : List Event) → P completion → Q (completion ++ verdict_events kind (gone_names judged))) where
+  abbrev lines : List Event
+  lines = verdict_events kind (gone_names judged)
+
+  both_texts : (completion : List Event) → text_of (map Told (completion ++ lines)) ≡ text_of (map Told completion) ++ text_of (map Told lines)
+  both_texts completion = ap text_of (map-append Told completion lines) ∙ text_of-append (map Told completion) (map Told lines)
+
+  module _ (before middle after : Option (List ℕ)) where
+    -- the lines of both were written
+    both_told : (first second : ℕ) → AreTold P first before middle → second ≡ length (gone_names judged) →
+        Appends middle after (text_of (map Told lines)) → AreTold Q (first + second) before after
+    both_told first second c many written = record {
+      events = c.events ++ lines;
+      are = joins c.events c.are;
+      counted = counted_both c.events lines first second c.counted
+          (counted_names kind (gone_names judged) (length (gone_names judged)) ∙ ap (λ n. record no_counts { gone = n }) (sym many));
+      written = subst (Appends before after) (sym (both_texts c.events))
+          (Appends-trans before middle after (text_of (map Told c.events)) (text_of (map Told lines)) c.written written);
+    }
+
+    -- those of the verdict were cut off
+    second_cut : (first : ℕ) → AreTold P first before middle → AppendsPrefix middle after (text_of (map Told lines)) → AreCut Q before after
+    second_cut first c prefix = record {
+      events = c.events ++ lines;
+      are = joins c.events c.are;
+      prefix = subst (AppendsPrefix before after) (sym (both_texts c.events))
+          (prefix_after before middle after (text_of (map Told c.events)) (text_of (map Told lines)) c.written prefix);
+    }
+
+  -- those of the completion were cut off, and those of the verdict weren't written
+  first_cut : (before after : Option (List ℕ)) → AreCut P before after → AreCut Q before after
+  first_cut before after cut = record {
+    events = cut.events ++ lines;
+    are = joins cut.events cut.are;
+    prefix = subst (AppendsPrefix before after) (sym (both_texts cut.events))
+        (prefix_longer before after (text_of (map Told cut.events)) (text_of (map Told lines)) cut.prefix);
+  }
+
 -- a collection: a completion, which left the heap `idle`, and then a verdict of the kind, which left the last heap
-module _ (old idle new : HeapView) (kind : Kind) (roots stack : List ℕ) (scans : ℕ) (verdict : IsHeapVerdict idle new kind roots stack scans)
-    (few : scans < 2 ^ 27) where
+module _ (old : HeapView) (f : FinalLists) (idle new : HeapView) (g : FinalLists) (kind : Kind) (roots stack : List ℕ) (scans : ℕ)
+    (verdict : IsHeapVerdict idle new kind roots stack scans) (few : scans < 2 ^ 27) where
+  abbrev Completed : ℕ → List Event → Type 0
+  Completed ended events = IsHeapCompletion old f idle g roots stack ended events
+
+  abbrev Collected : List Event → Type 0
+  Collected events = (ended scans : ℕ) × IsHeapCollection old f new g kind roots stack ended scans events
+
   abbrev told : List Event
   told = verdict_events kind (gone_names new)
 
-  collection : (ended : ℕ) (completion : List Event) → IsHeapCompletion old idle roots stack ended completion →
-      IsHeapCollection old new kind roots stack ended scans (completion ++ told)
+  collection : (ended : ℕ) (completion : List Event) → Completed ended completion →
+      IsHeapCollection old f new g kind roots stack ended scans (completion ++ told)
   collection ended completion c = record {
     idle = idle;
     completion = completion;
@@ -124,41 +190,68 @@ module _ (old idle new : HeapView) (kind : Kind) (roots stack : List ℕ) (scans
     events_are = refl;
   }
 
-  both_texts : (completion : List Event) → text_of (map Told (completion ++ told)) ≡ text_of (map Told completion) ++ text_of (map Told told)
-  both_texts completion = ap text_of (map-append Told completion told) ∙ text_of-append (map Told completion) (map Told told)
+  module _ (before middle after : Option (List ℕ)) where
+    pub collected_done : (ended first second ticks ticked : ℕ) → AreTold (Completed ended) first before middle →
+        second ≡ length (gone_names new) → Appends middle after (text_of (map Told told)) → ticked ≡ ticks + ended + scans →
+        AreTold (IsTickedCollection old f new g kind roots stack scans ticks ticked) (first + second) before after
+    collected_done ended first second ticks ticked c many written rose =
+        both_told kind new (Completed ended) (IsTickedCollection old f new g kind roots stack scans ticks ticked)
+        (λ completion c. record { ended = ended; collects = collection ended completion c; rose = rose })
+        before middle after first second c many written
+
+    pub verdict_cut : (ended first : ℕ) → AreTold (Completed ended) first before middle → AppendsPrefix middle after (text_of (map Told told)) →
+        AreCut Collected before after
+    verdict_cut ended first c prefix =
+        second_cut kind new (Completed ended) Collected (λ completion c. (ended, scans, collection ended completion c)) before middle after first c prefix
+
+  pub completion_cut : (before after : Option (List ℕ)) → AreCut (λ events. (ended : ℕ) × Completed ended events) before after →
+      AreCut Collected before after
+  completion_cut = first_cut kind new (λ events. (ended : ℕ) × Completed ended events) Collected
+      (λ completion (ended, c). (ended, scans, collection ended completion c))
+
+-- `exit` up to the finalizers that run: a completion, a whole verdict without roots and stack words, which left the heap `judged`, and sweeps of
+-- all pages
+module _ (old : HeapView) (f : FinalLists) (idle : HeapView) (queued : FinalLists) (judged new : HeapView) (g : FinalLists) (roots stack : List ℕ)
+    (scans : ℕ) (verdict : IsHeapVerdict idle judged Full [] [] scans) (few : scans < 2 ^ 27) (sweeps : SweepsAll judged queued new g) where
+  abbrev CompletedFirst : ℕ → List Event → Type 0
+  CompletedFirst ended events = IsHeapCompletion old f idle queued roots stack ended events
+
+  abbrev Exited : List Event → Type 0
+  Exited events = (ended : ℕ) × IsHeapExit old f new g roots stack ended events
+
+  abbrev told_last : List Event
+  told_last = verdict_events Full (gone_names judged)
+
+  abbrev exits : (ended : ℕ) (completion : List Event) → CompletedFirst ended completion →
+      IsHeapExit old f new g roots stack ended (completion ++ told_last)
+  exits ended completion c = record {
+    idle = idle;
+    queued = queued;
+    completion = completion;
+    completes = c;
+    judged = judged;
+    scans = scans;
+    told = told_last;
+    tells = record { verdict = verdict; few = few; events_are = refl };
+    sweeps = sweeps;
+    events_are = refl;
+  }
 
   module _ (before middle after : Option (List ℕ)) where
-    -- the lines of both were written
-    pub collected_done : (ended first second ticks ticked : ℕ) → AreTold (IsHeapCompletion old idle roots stack ended) first before middle →
-        second ≡ length (gone_names new) → Appends middle after (text_of (map Told told)) → ticked ≡ ticks + ended + scans →
-        AreTold (IsTickedCollection old new kind roots stack scans ticks ticked) (first + second) before after
-    collected_done ended first second ticks ticked c many written rose = record {
-      events = c.events ++ told;
-      are = record { ended = ended; collects = collection ended c.events c.are; rose = rose };
-      counted = counted_both c.events told first second c.counted
-          (counted_names kind (gone_names new) (length (gone_names new)) ∙ ap (λ n. record no_counts { gone = n }) (sym many));
-      written = subst (Appends before after) (sym (both_texts c.events))
-          (Appends-trans before middle after (text_of (map Told c.events)) (text_of (map Told told)) c.written written);
-    }
+    pub exit_done : (ended first second ticks ticked : ℕ) → AreTold (CompletedFirst ended) first before middle →
+        second ≡ length (gone_names judged) → Appends middle after (text_of (map Told told_last)) → ticked ≡ ticks + ended + scans →
+        AreTold (IsTickedExit old f new g roots stack ticks ticked) (first + second) before after
+    exit_done ended first second ticks ticked c many written rose =
+        both_told Full judged (CompletedFirst ended) (IsTickedExit old f new g roots stack ticks ticked)
+        (λ completion c. record { ended = ended; exits = exits ended completion c; rose = rose })
+        before middle after first second c many written
 
-    -- those of the verdict were cut off
-    pub verdict_cut : (ended first : ℕ) → AreTold (IsHeapCompletion old idle roots stack ended) first before middle →
-        AppendsPrefix middle after (text_of (map Told told)) →
-        AreCut (λ events. (ended scans : ℕ) × IsHeapCollection old new kind roots stack ended scans events) before after
-    verdict_cut ended first c prefix = record {
-      events = c.events ++ told;
-      are = (ended, scans, collection ended c.events c.are);
-      prefix = subst (AppendsPrefix before after) (sym (both_texts c.events))
-          (prefix_after before middle after (text_of (map Told c.events)) (text_of (map Told told)) c.written prefix);
-    }
+    pub exit_verdict_cut : (ended first : ℕ) → AreTold (CompletedFirst ended) first before middle →
+        AppendsPrefix middle after (text_of (map Told told_last)) → AreCut Exited before after
+    exit_verdict_cut ended first c prefix =
+        second_cut Full judged (CompletedFirst ended) Exited (λ completion c. (ended, exits ended completion c)) before middle after first c prefix
 
-  -- those of the completion were cut off, and those of the verdict weren't written
-  pub completion_cut : (before after : Option (List ℕ)) →
-      AreCut (λ events. (ended : ℕ) × IsHeapCompletion old idle roots stack ended events) before after →
-      AreCut (λ events. (ended scans : ℕ) × IsHeapCollection old new kind roots stack ended scans events) before after
-  completion_cut before after cut = record {
-    events = cut.events ++ told;
-    are = (cut.are.0, scans, collection cut.are.0 cut.events cut.are.1);
-    prefix = subst (AppendsPrefix before after) (sym (both_texts cut.events))
-        (prefix_longer before after (text_of (map Told cut.events)) (text_of (map Told told)) cut.prefix);
-  }
+  pub exit_completion_cut : (before after : Option (List ℕ)) → AreCut (λ events. (ended : ℕ) × CompletedFirst ended events) before after →
+      AreCut Exited before after
+  exit_completion_cut = first_cut Full judged (λ events. (ended : ℕ) × CompletedFirst ended events) Exited
+      (λ completion (ended, c). (ended, exits ended completion c))

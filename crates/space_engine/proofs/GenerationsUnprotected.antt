@@ -286,4 +286,5 @@ module _ (v : View) (s : State) (h : Holds v s) (name address : ℕ) (at : get s
     stack = h.represents.stack;
     ids = ids_led s.heap.place v.heap z changed.leads s.tables.ids v.ids h.represents.ids;
     weak = weak_led s.heap.place v.heap z changed.leads s.tables.weak v.weak h.represents.weak;
+    finals = h.represents.finals;
   }

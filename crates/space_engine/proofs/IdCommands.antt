@@ -70,6 +70,7 @@ module _ (v : View) (s : State) (h : Holds v s) where
           (at ∙ ap Some (sym (resolved_object v.heap address (h.represents.heap.objects.stands name address at))));
     };
     weak = h.represents.weak;
+    finals = h.represents.finals;
   }
 
   id_named : (object : Operand) (address id : ℕ) → IsOperandAt v s h object address →

@@ -26,6 +26,7 @@ mod GenerationsBorn
 mod ColoursBorn
 mod NewObjects
 mod FreshPages
+mod QueuedNames
 mod SweptInNeed
 mod NewPlaces
 mod Openings
@@ -57,6 +58,9 @@ mod MajorStart
 mod MajorCommand
 mod FinishCommand
 mod Stepping
+mod FinalCommands
+mod ObjectLists
+mod DumpLists
 mod GenerationNames
 mod GenerationLists
 mod KindNotes
@@ -71,3 +75,9 @@ mod MarkScans
 mod MarkCommand
 mod WeakEntryLaws
 mod WeakCommands
+mod DumpLines
+mod DumpCommands
+mod ExitStarts
+mod ExitStates
+mod ExitLines
+mod ExitCommand

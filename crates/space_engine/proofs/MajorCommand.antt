@@ -8,6 +8,7 @@ use Rattle.space_model.specs.declared.reply.Reply.TheVariants.{Done}
 use Rattle.space_model.specs.Layout.{page_of}
 use Rattle.space_model.specs.MajorMarking.{marking_begun}
 use Rattle.space_model.specs.Markings.{mark_started}
+use Rattle.space_finals.specs.FinalLists.{FinalLists}
 use Rattle.space_heap.specs.HeapView.{Counters, HeapView}
 use Rattle.space_heap.specs.Marking.{unmarked}
 use Rattle.space_heap.specs.Objects.{is_occupied, object_of, is_moved}
@@ -90,10 +91,13 @@ module _ (idle : HeapView) (roots stack : List ℕ) (nothing : idle.phase ≡ Id
       }
 
 -- what was under way was completed, and then a marking began; the parts of the space between are those after the completion
-module _ (v mid parts : View) (same : parts ≡ mid) (rest : mid ≡ completed_view v mid.heap) (nothing : mid.heap.phase ≡ Idle) (able : CanAnswer v.heap)
+module _ (v mid parts : View) (same : parts ≡ mid) (rest : mid ≡ completed_view v mid.heap mid.finals) (nothing : mid.heap.phase ≡ Idle) (able : CanAnswer v.heap)
     (after : HeapView) (starts : after ≡ started parts.heap (root_words parts.roots) parts.stack) where
   abbrev idle : HeapView
   idle = mid.heap
+
+  abbrev queued : FinalLists
+  queued = mid.finals
 
   roots_stay : parts.roots ≡ v.roots
   roots_stay = ap (λ (w : View). w.roots) (same ∙ rest)
@@ -104,20 +108,21 @@ module _ (v mid parts : View) (same : parts ≡ mid) (rest : mid ≡ completed_v
   begins : after ≡ started idle (root_words v.roots) v.stack
   begins = starts ∙ (λ i. started (same i).heap (root_words (roots_stay i)) (stack_stays i))
 
-  view_is : with_heap parts after ≡ with_heap (completed_view v idle) (started idle (root_words v.roots) v.stack)
+  view_is : with_heap parts after ≡ with_heap (completed_view v idle queued) (started idle (root_words v.roots) v.stack)
   view_is =
       let ids = ap (λ (w : View). w.ids) (same ∙ rest) in
       let weak = ap (λ (w : View). w.weak) (same ∙ rest) in
-      λ i. record { heap = begins i; roots = roots_stay i; stack = stack_stays i; ids = ids i; weak = weak i }
+      let finals = ap (λ (w : View). w.finals) same in
+      λ i. record { heap = begins i; roots = roots_stay i; stack = stack_stays i; ids = ids i; weak = weak i; finals = finals i }
 
   abbrev IsCompletion : ℕ → List Event → Type 0
-  IsCompletion scans events = IsHeapCompletion v.heap idle (root_words v.roots) v.stack scans events
+  IsCompletion scans events = IsHeapCompletion v.heap v.finals idle queued (root_words v.roots) v.stack scans events
 
   lawful : (scans : ℕ) (events : List Event) → IsCompletion scans events → IsLawfulAnswer v (with_heap parts after) Major events Done
   lawful scans events c = record {
     answers = λ s h.
-        let to : CompletesTo v s idle scans events = completes_to v s h able.collect.rests idle scans events c in
-        let marking = marking_holds (completed_view v idle) to.state to.holds nothing in
+        let to : CompletesTo v s idle queued scans events = completes_to v s h able.collect.rests idle queued scans events c in
+        let marking = marking_holds (completed_view v idle queued) to.state to.holds nothing in
         record {
           state = marking_begun (mark_started to.state);
           represents = subst (λ (w : View). Represents w (marking_begun (mark_started to.state))) (sym view_is) marking.represents;
@@ -127,7 +132,7 @@ module _ (v mid parts : View) (same : parts ≡ mid) (rest : mid ≡ completed_v
             is = record { idle = to.state; completes = to.completes; started = mark_started to.state; starts = refl; begins = refl };
           };
         };
-    spelled = λ s h. completion_spelled v s h able.collect.rests idle scans events c able.born;
+    spelled = λ s h. completion_spelled v s h able.collect.rests idle queued scans events c able.born;
   }
 
   pub major_answered : (scans gone : ℕ) (before written : Option (List ℕ)) (ticks ticked : ℕ) → AreTold (IsCompletion scans) gone before written →
@@ -138,7 +143,7 @@ module _ (v mid parts : View) (same : parts ≡ mid) (rest : mid ≡ completed_v
     counted = told.counted;
     written = told.written;
     ticks_are = λ s h.
-        let to : CompletesTo v s idle scans told.events = completes_to v s h able.collect.rests idle scans told.events told.are in
+        let to : CompletesTo v s idle queued scans told.events = completes_to v s h able.collect.rests idle queued scans told.events told.are in
         record { ended = scans; ended_are = to.scans_are; ticked = omega (arith, rose) };
   }
 

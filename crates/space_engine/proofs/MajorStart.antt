@@ -212,6 +212,7 @@ module _ (v : View) (s : State) (h : Holds v s) (idle : v.heap.phase ≡ Idle) w
       stack = h.represents.stack;
       ids = ids_led s.heap.place v.heap new resolved_stays s.tables.ids v.ids h.represents.ids;
       weak = weak_led s.heap.place v.heap new resolved_stays s.tables.weak v.weak h.represents.weak;
+      finals = h.represents.finals;
     };
     sound = begun_sound s at_idle h.sound;
   }

@@ -243,4 +243,5 @@ module _ (v : View) (s : State) (h : Holds v s) (at : v.heap.phase ≡ Marking) 
     stack = h.represents.stack;
     ids = ids_led s.heap.place v.heap z same.moves s.tables.ids v.ids h.represents.ids;
     weak = weak_led s.heap.place v.heap z same.moves s.tables.weak v.weak h.represents.weak;
+    finals = h.represents.finals;
   }

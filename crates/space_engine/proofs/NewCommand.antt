@@ -24,6 +24,7 @@ use Rattle.space_model.specs.Reach.{Reach}
 use Rattle.space_model.specs.Sound.{Sound}
 use Rattle.space_model.proofs.Stages.{IsAtLimit, finds_at_once, finds_late, makes_none, place_leaves, lacks_page as lacks_page_after}
 use Rattle.space_model.proofs.WholeLaws.{collection_scans, completed_idle}
+use Rattle.space_finals.specs.FinalLists.{FinalLists}
 use Rattle.space_heap.specs.Allocations.{LacksRoom, NeedsNewPage}
 use Rattle.space_heap.specs.HeapView.{HeapView}
 use Rattle.space_heap.specs.SoundHeap.{IsSoundHeap}
@@ -34,7 +35,7 @@ use Rattle.space_engine.specs.Stands.{Represents, Holds}
 use Rattle.space_engine.specs.Steps.{AnswersWith}
 use Rattle.space_engine.specs.Ticks.{AreCompletionScans, IsMarkingTicked, IsTicked}
 use Rattle.space_engine.specs.Turns.{IsAtRest}
-use Rattle.space_engine.specs.Views.{View, with_heap, with_judged}
+use Rattle.space_engine.specs.Views.{View, with_finals, with_judged, with_swept}
 use Rattle.space_engine.specs.HeapCollections.{IsHeapCollection, IsTickedCollection, AreTold, AreCut, HasJudged}
 use Rattle.space_engine.proofs.Collecting.{CollectsTo, collects_to, collection_spelled}
 use Rattle.space_collector.specs.GoneNames.{gone_names}
@@ -102,12 +103,12 @@ module _ (root : List ℕ) (fields : ℕ) (guard : Guard) (style : Style) where
   }
 
   -- there is none for a new page, after pages were swept in vain
-  pub lacks_page : (v : View) (s : State) (z : HeapView) → Holds v s → fields ≤ most_fields → IsSoundHeap v.heap → IsSoundHeap z →
-      SweepsUntilFree v.heap z (pool_for fields) → NeedsNewPage z (pool_for fields) →
-      AnswersWith s (with_heap v z) (New root fields guard style) [] NoMemory
-  lacks_page v s z h few sound sound_after swept needs =
-      let to = until_free_holds v s z (pool_for fields) h sound sound_after swept in
-      let n = needs_page v s z (pool_for fields) to needs in
+  pub lacks_page : (v : View) (s : State) (z : HeapView) (g : FinalLists) → Holds v s → fields ≤ most_fields → IsSoundHeap v.heap → IsSoundHeap z →
+      SweepsUntilFree v.heap v.finals z g (pool_for fields) → NeedsNewPage z (pool_for fields) →
+      AnswersWith s (with_swept v z g) (New root fields guard style) [] NoMemory
+  lacks_page v s z g h few sound sound_after swept needs =
+      let to = until_free_holds v s z g (pool_for fields) h sound sound_after swept in
+      let n = needs_page v s z g (pool_for fields) to needs in
       record {
         state = to.state;
         represents = to.holds.represents;
@@ -142,9 +143,9 @@ module _ (root : List ℕ) (fields : ℕ) (guard : Guard) (style : Style) where
     abbrev pool : ℕ
     pool = pool_for fields
 
-    -- the view with the heap after the sweeps
+    -- the view with the heap and the finalizers after the sweeps
     abbrev x : View
-    x = with_heap v r.heap
+    x = with_swept v r.heap r.finals
 
     late_reserved : IsReserved x r root is_new
     late_reserved = reserved_after v r root is_new pool reserved
@@ -152,36 +153,43 @@ module _ (root : List ℕ) (fields : ℕ) (guard : Guard) (style : Style) where
     same_heap : reserved.reserved.heap ≡ v.heap
     same_heap = heap_reserved v reserved.reserved root is_new reserved.reserves
 
-    module _ (w : View) (z : HeapView) (ended scans : ℕ) (events : List Event)
-        (c : IsHeapCollection r.heap z Full (root_words r.roots) r.stack ended scans events) where
+    module _ (w : View) (z : HeapView) (g : FinalLists) (ended scans : ℕ) (events : List Event)
+        (c : IsHeapCollection r.heap r.finals z g Full (root_words r.roots) r.stack ended scans events) where
+      -- the views after the collection, without and with the place for the root
+      abbrev collected : View
+      collected = with_finals (with_judged x z) g
+
+      abbrev collected_there : View
+      collected_there = with_finals (with_judged r z) g
+
       -- the place is there after the collection too
-      late_judged : IsReserved (with_judged x z) (with_judged r z) root is_new
-      late_judged = judged_reserved x r root is_new late_reserved z
+      late_judged : IsReserved collected collected_there root is_new
+      late_judged = judged_reserved x r root is_new late_reserved z g
 
       module _ (s : State) (h : Holds v s) where
-        swept : SweepsUntilFreeTo v s r.heap pool
-        swept = until_free_holds v s r.heap pool h (subst IsSoundHeap same_heap reserved.swept.was_sound) reserved.swept.sound
-            (subst (λ heap. SweepsUntilFree heap r.heap pool) same_heap reserved.swept.sweeps)
+        swept : SweepsUntilFreeTo v s r.heap r.finals pool
+        swept = until_free_holds v s r.heap r.finals pool h (subst IsSoundHeap same_heap reserved.swept.was_sound) reserved.swept.sound
+            (subst (λ (u : View). SweepsUntilFree u.heap u.finals r.heap r.finals pool) reserved.reserves.becomes reserved.swept.sweeps)
 
         -- the state after the sweeps
         abbrev limited : State
         limited = swept.state
 
         limit : IsAtLimit s pool limited
-        limit = full_state v s r.heap pool swept lacks
+        limit = full_state v s r.heap r.finals pool swept lacks
 
-        its : IsHeapCollection x.heap z Full (root_words x.roots) x.stack ended scans events
-        its = collection_reserved x limited swept.holds rests z ended scans events r root is_new late_reserved c
+        its : IsHeapCollection x.heap x.finals z g Full (root_words x.roots) x.stack ended scans events
+        its = collection_reserved x limited swept.holds rests z g ended scans events r root is_new late_reserved c
 
-        to : CollectsTo x limited z Full ended scans events
-        to = collects_to x limited swept.holds rests z Full not_major ended scans events its
+        to : CollectsTo x limited z g Full ended scans events
+        to = collects_to x limited swept.holds rests z g Full not_major ended scans events its
 
         -- an object was allocated after it
-        late_made : (name a : ℕ) → IsRootedAllocation (with_judged r z) w root fields guard style name a →
+        late_made : (name a : ℕ) → IsRootedAllocation collected_there w root fields guard style name a →
             AnswersWith s w (New root fields guard style) events (Made name a)
         late_made name a allocated =
-            let m = made_from (with_judged x z) w to.state to.holds root fields guard style name a
-            (allocated_at_once (with_judged x z) (with_judged r z) root is_new late_judged w fields guard style name a allocated) in
+            let m = made_from collected w to.state to.holds root fields guard style name a
+            (allocated_at_once collected collected_there root is_new late_judged w fields guard style name a allocated) in
             let place = finds_late s limited to.state pool events scans limit to.collects m.ready a m.place in
             record {
               state = m.state;
@@ -200,14 +208,14 @@ module _ (root : List ℕ) (fields : ℕ) (guard : Guard) (style : Style) where
             }
 
         -- there was no room after it either
-        late_none : LacksRoom w.heap pool → IsGivenUp (with_judged r z) w root is_new pool → AnswersWith s w (New root fields guard style) events FullReply
+        late_none : LacksRoom w.heap pool → IsGivenUp collected_there w root is_new pool → AnswersWith s w (New root fields guard style) events FullReply
         late_none still given =
-            let end = until_free_holds (with_judged x z) to.state w.heap pool to.holds given.was_sound given.sound given.sweeps in
-            let full = full_state (with_judged x z) to.state w.heap pool end still in
+            let end = until_free_holds collected to.state w.heap w.finals pool to.holds given.was_sound given.sound given.sweeps in
+            let full = full_state collected to.state w.heap w.finals pool end still in
             record {
               state = end.state;
               represents = subst (λ (w : View). Represents w end.state)
-                  (sym (given.becomes ∙ dropped_reserved (with_judged x z) (with_judged r z) root is_new late_judged w.heap))
+                  (sym (given.becomes ∙ dropped_reserved collected collected_there root is_new late_judged w.heap w.finals))
                   end.holds.represents;
               effects = record {
                 reply = FullReply;
@@ -216,7 +224,7 @@ module _ (root : List ℕ) (fields : ℕ) (guard : Guard) (style : Style) where
               };
             }
 
-        late : (reply : Reply) → IsLastReply (with_judged r z) w root is_new fields guard style reply →
+        late : (reply : Reply) → IsLastReply collected_there w root is_new fields guard style reply →
             AnswersWith s w (New root fields guard style) events reply
         late (Made name a) last = late_made name a last
         late FullReply last = late_none last.0 last.1
@@ -227,11 +235,11 @@ module _ (root : List ℕ) (fields : ℕ) (guard : Guard) (style : Style) where
         late_ticked = after_sweeps limit.vain.pages s pool limited h.sound limit.vain.sweeps limit.vain.none_waits to.state events ended scans to.collects
             to.ended_are
 
-      lawful : (reply : Reply) → IsLastReply (with_judged r z) w root is_new fields guard style reply →
+      lawful : (reply : Reply) → IsLastReply collected_there w root is_new fields guard style reply →
           IsLawfulAnswer v w (New root fields guard style) events reply
       lawful reply last = record {
         answers = λ s h. late s h reply last;
-        spelled = λ s h. collection_spelled x (limited s h) (swept s h).holds rests z Full not_major ended scans events (its s h) born;
+        spelled = λ s h. collection_spelled x (limited s h) (swept s h).holds rests z g Full not_major ended scans events (its s h) born;
       }
 
     -- a collection tells something
@@ -241,45 +249,46 @@ module _ (root : List ℕ) (fields : ℕ) (guard : Guard) (style : Style) where
     ticked_events s [] (name ∷ names) k reply ticks ticked t = t
     ticked_events s (event ∷ completion) names k reply ticks ticked t = t
 
-    pub answered_late : (w : View) (z : HeapView) (scans gone : ℕ) (reply : Reply) (before after : Option (List ℕ)) (ticks ticked : ℕ) →
-        AreTold (IsTickedCollection r.heap z Full (root_words r.roots) r.stack scans ticks ticked) gone before after →
-        IsLastReply (with_judged r z) w root is_new fields guard style reply → IsAnswered v w (New root fields guard style) reply gone before after ticks ticked
-    answered_late w z scans gone reply before after ticks ticked told last =
+    pub answered_late : (w : View) (z : HeapView) (g : FinalLists) (scans gone : ℕ) (reply : Reply) (before after : Option (List ℕ)) (ticks ticked : ℕ) →
+        AreTold (IsTickedCollection r.heap r.finals z g Full (root_words r.roots) r.stack scans ticks ticked) gone before after →
+        IsLastReply (with_finals (with_judged r z) g) w root is_new fields guard style reply →
+        IsAnswered v w (New root fields guard style) reply gone before after ticks ticked
+    answered_late w z g scans gone reply before after ticks ticked told last =
         let ended = told.are.ended in
         let c = told.are.collects in
         let events_are : told.events ≡ c.completion ++ verdict_events Full (gone_names z) =
         c.events_are ∙ ap (λ events. c.completion ++ events) c.tells.events_are in
         record {
           events = told.events;
-          lawful = lawful w z ended scans told.events c reply last;
+          lawful = lawful w z g ended scans told.events c reply last;
           counted = told.counted;
           written = told.written;
           ticks_are = λ s h. subst (λ events. IsTicked s (New root fields guard style) events reply ticks ticked) (sym events_are)
               (ticked_events s c.completion (gone_names z) (length (gone_names z)) reply ticks ticked
-              (late_ticked w z ended scans told.events c s h ticks ticked told.are.rose));
+              (late_ticked w z g ended scans told.events c s h ticks ticked told.are.rose));
         }
 
     -- the reply can be written
-    late_spelled : (w : View) (z : HeapView) (reply : Reply) → z.counters.born < 2 ^ 62 → IsLastReply (with_judged r z) w root is_new fields guard style reply →
-        IsSpelled (reply_pieces reply)
-    late_spelled w z (Made name address) few last = (
+    late_spelled : (w : View) (z : HeapView) (g : FinalLists) (reply : Reply) → z.counters.born < 2 ^ 62 →
+        IsLastReply (with_finals (with_judged r z) g) w root is_new fields guard style reply → IsSpelled (reply_pieces reply)
+    late_spelled w z g (Made name address) few last = (
       let is = last.allocation.named in
-          let same = born_swept z last.swept (pool_for fields) last.was_sound last.sweeps in
+          let same = born_swept z g last.swept w.finals (pool_for fields) last.was_sound last.sweeps in
           omega arith,
       tt,
     )
-    late_spelled w z FullReply few last = tt
-    late_spelled w z _ few last = absurd last
+    late_spelled w z g FullReply few last = tt
+    late_spelled w z g _ few last = absurd last
 
-    pub cut_off_late : (w : View) (z : HeapView) (reply : Reply) (before after : Option (List ℕ)) → HasJudged 1 2 most_slots r.heap z →
-        AreCut (λ events. (ended scans : ℕ) × IsHeapCollection r.heap z Full (root_words r.roots) r.stack ended scans events) before after →
-        IsLastReply (with_judged r z) w root is_new fields guard style reply → IsCutOff v w (New root fields guard style) before after
-    cut_off_late w z reply before after judged cut last =
+    pub cut_off_late : (w : View) (z : HeapView) (g : FinalLists) (reply : Reply) (before after : Option (List ℕ)) → HasJudged 1 2 most_slots r.heap z →
+        AreCut (λ events. (ended scans : ℕ) × IsHeapCollection r.heap r.finals z g Full (root_words r.roots) r.stack ended scans events) before after →
+        IsLastReply (with_finals (with_judged r z) g) w root is_new fields guard style reply → IsCutOff v w (New root fields guard style) before after
+    cut_off_late w z g reply before after judged cut last =
         let (ended, scans, c) = cut.are in
         record {
           events = cut.events;
           reply = reply;
-          lawful = lawful w z ended scans cut.events c reply last;
-          reply_spelled = late_spelled w z reply (let same = judged.born in omega (arith, same, born)) last;
+          lawful = lawful w z g ended scans cut.events c reply last;
+          reply_spelled = late_spelled w z g reply (let same = judged.born in omega (arith, same, born)) last;
           prefix = cut.prefix;
         }

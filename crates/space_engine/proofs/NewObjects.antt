@@ -263,4 +263,5 @@ module _ (v : View) (s : State) (h : Holds v s) (root : List ℕ) (fields : ℕ)
     stack = h.represents.stack;
     ids = ids_over s.heap.place place' v.heap w stays_placed s.tables.ids v.ids absent_placed h.represents.ids;
     weak = weak_over s.heap.place place' v.heap w stays_placed s.tables.weak v.weak h.represents.weak;
+    finals = h.represents.finals;
   }

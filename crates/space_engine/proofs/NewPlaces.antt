@@ -15,6 +15,7 @@ use Rattle.space_model.specs.Sound.{Sound}
 use Rattle.space_model.specs.State.{State}
 use Rattle.space_model.proofs.Stages.{IsSweptInVain, IsNewPlace, IsAtLimit}
 use Rattle.space_model.proofs.PageLaws.{pool_at-with_pool, page_of-slot_address}
+use Rattle.space_finals.specs.FinalLists.{FinalLists}
 use Rattle.space_heap.specs.Slots.{new_object}
 use Rattle.space_heap.specs.HeapView.{HeapView, with_page}
 use Rattle.space_heap.specs.Objects.{placed}
@@ -27,7 +28,7 @@ use Rattle.space_heap.proofs.NewPageSlots.{rest-with_page}
 use Rattle.space_heap.specs.Allocations.{GetsPage, IsAllocation, LacksRoom, NeedsNewPage}
 use Rattle.space_engine.specs.Allocations.{IsRootedAllocation}
 use Rattle.space_engine.specs.Stands.{Represents, Holds}
-use Rattle.space_engine.specs.Views.{View, with_heap, with_root_written}
+use Rattle.space_engine.specs.Views.{View, with_heap, with_swept, with_root_written}
 use Rattle.space_engine.proofs.Addresses.{has_slot, known_pool}
 use Rattle.space_engine.proofs.FreshPages.{fresh_pages, first_of_page, fresh_page}
 use Rattle.space_engine.proofs.FreeAddresses.{free_agrees}
@@ -150,9 +151,9 @@ module _ (v w : View) (s : State) (held : Holds v s) (sound_heap : IsSoundHeap v
       b.room
 
 -- the place in words of the state before the sweeps
-place_after : (v : View) (s : State) (z : HeapView) (pool a : ℕ) (to : SweepsUntilFreeTo v s z pool) → IsPlaceFor z to.state pool a →
+place_after : (v : View) (s : State) (z : HeapView) (g : FinalLists) (pool a : ℕ) (to : SweepsUntilFreeTo v s z g pool) → IsPlaceFor z to.state pool a →
     IsNewPlace s pool to.state a
-place_after v s z pool a to place = ⊎_elim
+place_after v s z g pool a to place = ⊎_elim
     (λ new. inl (record { pages = to.pages; sweeps = to.sweeps; new = new }))
     (λ (none, page, fresh, is). inr (record { vain = to.vain none; page = page; fresh = fresh; is = is }))
     place
@@ -161,15 +162,15 @@ place_after v s z pool a to place = ⊎_elim
 pub made_from : (v w : View) (s : State) → Holds v s → (root : List ℕ) (fields : ℕ) (guard : Guard) (style : Style) (name a : ℕ) →
     IsRootedAllocation v w root fields guard style name a → IsMadeFrom w s root fields guard style name a
 made_from v w s held root fields guard style name a r =
-    let to = until_free_holds v s r.swept (pool_for fields) held r.was_sound r.sound r.sweeps in
-    let u = with_heap v r.swept in
+    let to = until_free_holds v s r.swept w.finals (pool_for fields) held r.was_sound r.sound r.sweeps in
+    let u = with_swept v r.swept w.finals in
     let p = place_of u w to.state to.holds r.sound root fields guard style name a r.allocation in
-    let place = place_after v s r.swept (pool_for fields) a to p.place in
+    let place = place_after v s r.swept w.finals (pool_for fields) a to p.place in
     let named : name ≡ length to.state.graph + 1 = r.allocation.named ∙ ap (λ n. n + 1) to.holds.represents.heap.counted.allocated in
     let heap : w.heap ≡ placed p.heap a (new_object (length to.state.graph + 1) fields guard style) =
     p.becomes ∙ ap (λ n. placed p.heap a (new_object n fields guard style)) named in
     let is : w ≡ with_root_written (with_heap u (placed p.heap a (new_object (length to.state.graph + 1) fields guard style))) root a =
-    r.becomes ∙ ap (λ heap. with_root_written (with_heap v heap) root a) heap in
+    r.becomes ∙ ap (λ heap. with_root_written (with_swept v heap w.finals) root a) heap in
     record {
       ready = to.state;
       state = noted (born to.state root fields guard style a);
@@ -187,23 +188,24 @@ none_spare_there v s h spares = λ page spare.
     spares page (let c = h.heap.pages.count in let lt = spare.0 in omega arith, sym (h.heap.pages.pools page) ∙ spare.1)
 
 -- where there is no room in the heap after the sweeps, the state is at the limit
-pub full_state : (v : View) (s : State) (z : HeapView) (pool : ℕ) (to : SweepsUntilFreeTo v s z pool) → LacksRoom z pool → IsAtLimit s pool to.state
-full_state v s z pool to (none, full) = record {
+pub full_state : (v : View) (s : State) (z : HeapView) (g : FinalLists) (pool : ℕ) (to : SweepsUntilFreeTo v s z g pool) → LacksRoom z pool →
+    IsAtLimit s pool to.state
+full_state v s z g pool to (none, full) = record {
   vain = to.vain none;
-  none_spare = none_spare_there (with_heap v z) to.state to.holds.represents full.0;
+  none_spare = none_spare_there (with_swept v z g) to.state to.holds.represents full.0;
   limit =
       let pages = to.holds.represents.heap.pages in
       pages.count ∙ full.1 ∙ sym pages.limited;
 }
 
 -- where an object needs a new page in the heap after the sweeps, it needs one in the state
-pub needs_page : (v : View) (s : State) (z : HeapView) (pool : ℕ) (to : SweepsUntilFreeTo v s z pool) → NeedsNewPage z pool →
+pub needs_page : (v : View) (s : State) (z : HeapView) (g : FinalLists) (pool : ℕ) (to : SweepsUntilFreeTo v s z g pool) → NeedsNewPage z pool →
     IsSweptInVain s pool to.state × NeedsPage to.state
-needs_page v s z pool to w =
+needs_page v s z g pool to w =
     let pages = to.holds.represents.heap.pages in (
       to.vain w.none_free,
       record {
-        none_spare = none_spare_there (with_heap v z) to.state to.holds.represents w.none_spare;
+        none_spare = none_spare_there (with_swept v z g) to.state to.holds.represents w.none_spare;
         below =
             let most = to.holds.sound.layout.limited in
             let other : length to.state.heap.pages ≡ to.state.heap.limit → ⊥ = λ e. w.below (sym pages.count ∙ e ∙ pages.limited) in

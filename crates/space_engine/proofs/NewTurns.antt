@@ -6,6 +6,7 @@ use Rattle.space_model.specs.declared.object.Style.{Style}
 use Rattle.space_model.specs.declared.reply.Reply.{Reply}
 use Rattle.space_model.specs.declared.reply.Reply.TheVariants.{Made, Full}
 use Rattle.space_model.specs.Layout.{pool_for}
+use Rattle.space_finals.specs.FinalLists.{FinalLists}
 use Rattle.space_heap.specs.declared.colour.Colour.TheVariants.{White, Grey}
 use Rattle.space_heap.specs.Allocations.{IsAllocation}
 use Rattle.space_heap.specs.HeapView.{Counters, HeapView}
@@ -22,7 +23,7 @@ use Rattle.space_heap.proofs.ObjectLaws.{counters-placed, grey-placed, phase-pla
 use Rattle.space_collector.specs.PagesSwept.{SweepsUntilFree, LeavesRest}
 use Rattle.space_collector.specs.Quiescent.{IsQuiescent, most_slots}
 use Rattle.space_collector.proofs.AllSweeps.{leaves_rest_pages}
-use Rattle.space_collector.proofs.NeededSweeps.{in_need_pages}
+use Rattle.space_collector.proofs.HeapSweeps.{heap_pages, in_need_pages}
 use Rattle.space_engine.specs.Allocations.{IsLastReply, IsSwept}
 use Rattle.space_engine.specs.HeapCollections.{HasJudged}
 use Rattle.space_engine.specs.Turns.{CanAnswer, CanCompleteAndCollect, IsAtRest, IsWork, IsOneTurn}
@@ -98,34 +99,37 @@ module _ (v w : HeapView) (fields : ℕ) (guard : Guard) (style : Style) (name a
       (ap (λ (c : Counters). c.other_verdicts) rest.counters)
 
 -- what sweeps in need leave as it was
-pub rest_swept : (v w : HeapView) (pool : ℕ) → IsSoundHeap v → SweepsUntilFree v w pool → LeavesRest v w
-rest_swept v w pool sound swept = leaves_rest_pages swept.pages v w sound (in_need_pages swept.pages v pool w swept.sweeps)
+pub rest_swept : (v : HeapView) (f : FinalLists) (w : HeapView) (g : FinalLists) (pool : ℕ) → IsSoundHeap v → SweepsUntilFree v f w g pool → LeavesRest v w
+rest_swept v f w g pool sound swept =
+    leaves_rest_pages swept.pages v w sound (heap_pages swept.pages v f w g (in_need_pages swept.pages v f pool w g swept.sweeps))
 
 -- no object is allocated in them
-pub born_swept : (v w : HeapView) (pool : ℕ) → IsSoundHeap v → SweepsUntilFree v w pool → w.counters.born ≡ v.counters.born
-born_swept v w pool sound swept = ap (λ (c : Counters). c.born) (rest_swept v w pool sound swept).counters
+pub born_swept : (v : HeapView) (f : FinalLists) (w : HeapView) (g : FinalLists) (pool : ℕ) → IsSoundHeap v → SweepsUntilFree v f w g pool →
+    w.counters.born ≡ v.counters.born
+born_swept v f w g pool sound swept = ap (λ (c : Counters). c.born) (rest_swept v f w g pool sound swept).counters
 
 -- the counts of verdicts stayed
 pub record KeepsVerdicts (v w : HeapView) : Type 0 where
   pub minor_verdicts : w.counters.minor_verdicts ≡ v.counters.minor_verdicts
   pub other_verdicts : w.counters.other_verdicts ≡ v.counters.other_verdicts
 
-keeps_swept : (v w : HeapView) (pool : ℕ) → IsSoundHeap v → SweepsUntilFree v w pool → KeepsVerdicts v w
-keeps_swept v w pool sound swept =
-    let same = (rest_swept v w pool sound swept).counters in
+keeps_swept : (v : HeapView) (f : FinalLists) (w : HeapView) (g : FinalLists) (pool : ℕ) → IsSoundHeap v → SweepsUntilFree v f w g pool → KeepsVerdicts v w
+keeps_swept v f w g pool sound swept =
+    let same = (rest_swept v f w g pool sound swept).counters in
     record { minor_verdicts = ap (λ (c : Counters). c.minor_verdicts) same; other_verdicts = ap (λ (c : Counters). c.other_verdicts) same }
 
 -- they stay in an allocation that is the last
 keeps_last : (v w : View) (root : List ℕ) (is_new : Bool) (fields : ℕ) (guard : Guard) (style : Style) (reply : Reply) →
     IsLastReply v w root is_new fields guard style reply → KeepsVerdicts v.heap w.heap
 keeps_last v w root is_new fields guard style (Made name address) last =
-    let first = keeps_swept v.heap last.swept (pool_for fields) last.was_sound last.sweeps in
+    let first = keeps_swept v.heap v.finals last.swept w.finals (pool_for fields) last.was_sound last.sweeps in
     let same = counters_allocated last.swept w.heap fields guard style name address last.allocation in
     record {
       minor_verdicts = ap (λ (c : Counters). c.minor_verdicts) same ∙ first.minor_verdicts;
       other_verdicts = ap (λ (c : Counters). c.other_verdicts) same ∙ first.other_verdicts;
     }
-keeps_last v w root is_new fields guard style Full last = keeps_swept v.heap w.heap (pool_for fields) last.1.was_sound last.1.sweeps
+keeps_last v w root is_new fields guard style Full last =
+    keeps_swept v.heap v.finals w.heap w.finals (pool_for fields) last.1.was_sound last.1.sweeps
 keeps_last v w root is_new fields guard style _ last = absurd last
 
 -- a collection, and then the last allocation or none
@@ -153,7 +157,7 @@ work_late before v w root is_new fields guard style reply judged last later =
 -- an allocation found no room, and pages were swept
 module _ (r u : View) (pool : ℕ) (swept : IsSwept r u pool) (work : IsWork 1 r.heap u.heap) where
   abbrev rest : LeavesRest r.heap u.heap
-  rest = rest_swept r.heap u.heap pool swept.was_sound swept.sweeps
+  rest = rest_swept r.heap r.finals u.heap u.finals pool swept.was_sound swept.sweeps
 
   -- no page came or went
   pub limit_after : length r.heap.pages ≡ r.heap.limit → length u.heap.pages ≡ u.heap.limit

@@ -67,6 +67,7 @@ opening_held limit = record {
     stack = refl;
     ids = record { names = refl; kept = tt };
     weak = record { apart = none_apart; values = λ map_name key. refl; at = λ map_name key entry found. absurd (cc) };
+    finals = record { defined = λ name. refl; waiting = refl };
   };
   sound = Sound-opening limit;
 }

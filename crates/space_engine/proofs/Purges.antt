@@ -3,8 +3,10 @@ use Rattle.std.proofs.Common.{◌≡◌, ◌≢◌, ◌&&◌, ℕ, zero, suc, Bo
 use Rattle.std.proofs.lemmas.Bool.{cases_Bool, and_parts, and_from, false_from_ne_true, false≢true}
 use Rattle.std.proofs.lemmas.List.Elements.{filter_agree}
 use Rattle.space_model.specs.declared.event.Kind.{Kind}
+use Rattle.space_model.specs.declared.event.Kind.TheVariants.{Full}
 use Rattle.space_model.specs.declared.phase.Phase.{Phase}
 use Rattle.space_model.specs.declared.phase.Phase.TheVariants.{Idle, Marking, Sweeping, Moving, Fixing}
+use Rattle.space_finals.specs.FinalLists.{FinalLists}
 use Rattle.space_heap.specs.HeapView.{HeapView}
 use Rattle.space_heap.specs.Objects.{is_occupied, is_object, resolved}
 use Rattle.space_heap.specs.Sweeping.{settled, HasNoGone}
@@ -15,7 +17,7 @@ use Rattle.space_collector.specs.PagesSwept.{SweepsPages, SweepsAll}
 use Rattle.space_collector.proofs.PageSweeps.{is_object-first, resolved-first}
 use Rattle.space_ids.specs.GivenIds.{GivenIds, still_kept, purged as purged_ids}
 use Rattle.space_weak.specs.WeakEntries.{Entry, is_live, purged as purged_entries}
-use Rattle.space_engine.specs.Views.{View, with_heap, with_judged, with_completed}
+use Rattle.space_engine.specs.Views.{View, with_finals, with_swept, without_starts, with_judged, with_completed}
 
 -- heaps in which the same is live purge alike
 module _ (old new : HeapView) (alike : (word : ℕ) → is_live new word ≡ is_live old word) where
@@ -70,12 +72,13 @@ module _ (old new : HeapView) (fewer : (word : ℕ) → is_live new word ≡ tru
       entries
 
 -- over sweeps the same stays live
-live_swept : (pages : ℕ) (old new : HeapView) → SweepsPages pages old new → (word : ℕ) → is_live new word ≡ is_live old word
-live_swept zero old new same word = ap (λ heap. is_live heap word) same
-live_swept (suc pages) old new (freed, mid, first, others) word =
-    live_swept pages mid new others word
-    ∙ is_object-first old mid freed first (resolved mid word)
-    ∙ ap (is_object old) (resolved-first old mid freed first word)
+live_swept : (pages : ℕ) (old : HeapView) (f : FinalLists) (new : HeapView) (g : FinalLists) → SweepsPages pages old f new g → (word : ℕ) →
+    is_live new word ≡ is_live old word
+live_swept zero old f new g (same, none) word = ap (λ heap. is_live heap word) same
+live_swept (suc pages) old f new g (mid, between, first, others) word =
+    live_swept pages mid between new g others word
+    ∙ is_object-first old mid first.freed first.sweeps (resolved mid word)
+    ∙ ap (is_object old) (resolved-first old mid first.freed first.sweeps word)
 
 -- a verdict makes nothing live
 live_judged : (old new : HeapView) (kind : Kind) (roots stack : List ℕ) (scans : ℕ) → HasNoGone old → IsHeapVerdict old new kind roots stack scans →
@@ -88,28 +91,47 @@ live_judged old new kind roots stack scans clean c word lives =
     let stands = and_parts (is_occupied c.marked a) _ (sym (is_object-settled c.marked kind a) ∙ ap (is_object last) (sym leads) ∙ there) in
     sym (c.marking.same.standing a ∙ none_gone old a clean) ∙ stands.0
 
+-- a verdict left the heap `judged`, and then every page was swept: it is as if all had been purged by the heap after the sweeps
+pub judged_swept : (v : View) (judged : HeapView) (f : FinalLists) (idle : HeapView) (g : FinalLists) → SweepsAll judged f idle g →
+    with_swept (with_judged v judged) idle g ≡ with_finals (with_judged v idle) g
+judged_swept v judged f idle g sweeps =
+    let alike = live_swept _ judged f idle g sweeps in
+    let ids = ids_alike judged idle alike v.ids in
+    let weak = entries_alike judged idle alike v.weak in
+    sym (λ i. record { heap = idle; roots = v.roots; stack = v.stack; ids = ids i; weak = weak i; finals = g })
+
 -- the space after what was under way was completed, part by part
-abbrev pub completed_view : View → HeapView → View
-completed_view v heap = record {
+abbrev pub completed_view : View → HeapView → FinalLists → View
+completed_view v heap finals = record {
   heap = heap;
   roots = v.roots;
   stack = v.stack;
   ids = if is_marking v.heap.phase then purged_ids heap v.ids else v.ids;
   weak = if is_marking v.heap.phase then purged_entries heap v.weak else v.weak;
+  finals = finals;
 }
 
-pub completed_is : (v : View) (heap : HeapView) → with_completed v heap ≡ completed_view v heap
-completed_is v heap = by_test (is_marking v.heap.phase)
+pub completed_is : (v : View) (heap : HeapView) (finals : FinalLists) → with_completed v heap finals ≡ completed_view v heap finals
+completed_is v heap finals = by_test (is_marking v.heap.phase)
   where
-    by_test : (test : Bool) → (if test then with_judged v heap else with_heap v heap) ≡ record {
+    by_test : (test : Bool) → (if test then with_finals (with_judged v heap) finals else with_swept v heap finals) ≡ record {
       heap = heap;
       roots = v.roots;
       stack = v.stack;
       ids = if test then purged_ids heap v.ids else v.ids;
       weak = if test then purged_entries heap v.weak else v.weak;
+      finals = finals;
     }
     by_test true = refl
     by_test false = refl
+
+-- what a completion is said to leave, part by part
+pub completed_as : (old new : View) → new ≡ with_completed old new.heap new.finals → new ≡ completed_view old new.heap new.finals
+completed_as old new rest = rest ∙ completed_is old new.heap new.finals
+
+-- what is purged by a heap is of the view that was there
+pub judged_as : (before mid new : View) (heap : HeapView) → before ≡ mid → new ≡ with_judged before heap → new ≡ with_judged mid heap
+judged_as before mid new heap same judged = judged ∙ ap (λ (v : View). with_judged v heap) same
 
 no_marking : (phase : Phase) → phase ≢ Marking → is_marking phase ≡ false
 no_marking Idle other = refl
@@ -119,25 +141,26 @@ no_marking Moving other = refl
 no_marking Fixing other = refl
 
 -- outside a marking nothing was purged
-pub completed_unmarked : (v : View) (idle : HeapView) → v.heap.phase ≢ Marking → completed_view v idle ≡ with_heap v idle
-completed_unmarked v idle other = rw (no_marking v.heap.phase other) refl
+pub completed_unmarked : (v : View) (idle : HeapView) (g : FinalLists) → v.heap.phase ≢ Marking → completed_view v idle g ≡ with_swept v idle g
+completed_unmarked v idle g other = rw (no_marking v.heap.phase other) refl
 
 -- in a marking a verdict left the heap `judged`, and then every page was swept
-pub completed_marking : (v : View) (judged idle : HeapView) → v.heap.phase ≡ Marking → SweepsAll judged idle →
-    completed_view v idle ≡ with_heap (with_judged v judged) idle
-completed_marking v judged idle marking sweeps =
-    let alike = live_swept _ judged idle sweeps in
+pub completed_marking : (v : View) (judged idle : HeapView) (g : FinalLists) → v.heap.phase ≡ Marking → SweepsAll judged v.finals idle g →
+    completed_view v idle g ≡ with_swept (with_judged v judged) idle g
+completed_marking v judged idle g marking sweeps =
+    let alike = live_swept _ judged v.finals idle g sweeps in
     let ids = ids_alike judged idle alike v.ids in
     let weak = entries_alike judged idle alike v.weak in
-    rw marking (λ i. record { heap = idle; roots = v.roots; stack = v.stack; ids = ids i; weak = weak i })
+    rw marking (λ i. record { heap = idle; roots = v.roots; stack = v.stack; ids = ids i; weak = weak i; finals = g })
 
 -- a verdict after a completion purges what that left
-pub judged_completed : (v : View) (idle new : HeapView) (kind : Kind) (roots stack : List ℕ) (scans : ℕ) → HasNoGone idle →
-    IsHeapVerdict idle new kind roots stack scans → with_judged (completed_view v idle) new ≡ with_judged v new
-judged_completed v idle new kind roots stack scans clean c =
+pub judged_completed : (v : View) (idle : HeapView) (g : FinalLists) (new : HeapView) (kind : Kind) (roots stack : List ℕ) (scans : ℕ) →
+    HasNoGone idle → IsHeapVerdict idle new kind roots stack scans →
+    with_judged (completed_view v idle g) new ≡ with_finals (with_judged v new) g
+judged_completed v idle g new kind roots stack scans clean c =
     let ids = ids_by (is_marking v.heap.phase) in
     let weak = weak_by (is_marking v.heap.phase) in
-    λ i. record { heap = new; roots = v.roots; stack = v.stack; ids = ids i; weak = weak i }
+    λ i. record { heap = new; roots = v.roots; stack = v.stack; ids = ids i; weak = weak i; finals = g }
   where
     fewer : (word : ℕ) → is_live new word ≡ true → is_live idle word ≡ true
     fewer = live_judged idle new kind roots stack scans clean c
@@ -151,10 +174,25 @@ judged_completed v idle new kind roots stack scans clean c =
     weak_by false = refl
 
 -- so a completion and a collection leave what its verdict alone would
-pub collected_rest : (old mid new : View) (heap : HeapView) (kind : Kind) (roots stack : List ℕ) (scans : ℕ) → mid ≡ completed_view old mid.heap →
-    HasNoGone mid.heap → IsHeapVerdict mid.heap heap kind roots stack scans → new ≡ with_judged mid heap → new ≡ with_judged old new.heap
+pub collected_rest : (old mid new : View) (heap : HeapView) (kind : Kind) (roots stack : List ℕ) (scans : ℕ) →
+    mid ≡ completed_view old mid.heap mid.finals → HasNoGone mid.heap → IsHeapVerdict mid.heap heap kind roots stack scans →
+    new ≡ with_judged mid heap → new ≡ with_finals (with_judged old new.heap) new.finals
 collected_rest old mid new heap kind roots stack scans rest clean c purged =
+    let last : heap ≡ new.heap = sym (ap (λ (v : View). v.heap) purged) in
+    let queued : mid.finals ≡ new.finals = sym (ap (λ (v : View). v.finals) purged) in
     purged
     ∙ ap (λ (v : View). with_judged v heap) rest
-    ∙ judged_completed old mid.heap heap kind roots stack scans clean c
-    ∙ ap (with_judged old) (sym (ap (λ (v : View). v.heap) purged))
+    ∙ judged_completed old mid.heap mid.finals heap kind roots stack scans clean c
+    ∙ (λ i. with_finals (with_judged old (last i)) (queued i))
+
+-- after that and without roots and stack words, a whole verdict and the sweeps of all pages leave what that verdict alone would
+pub exited_rest : (old mid new : View) (judged : HeapView) (scans : ℕ) → mid ≡ completed_view old mid.heap mid.finals → HasNoGone mid.heap →
+    IsHeapVerdict mid.heap judged Full [] [] scans → SweepsAll judged mid.finals new.heap new.finals →
+    new ≡ with_swept (with_judged (without_starts mid) judged) new.heap new.finals →
+    new ≡ with_finals (with_judged (without_starts old) new.heap) new.finals
+exited_rest old mid new judged scans rest clean c sweeps swept =
+    swept
+    ∙ ap (λ (v : View). with_swept (with_judged (without_starts v) judged) new.heap new.finals) rest
+    ∙ ap (λ (v : View). with_swept v new.heap new.finals)
+    (judged_completed (without_starts old) mid.heap mid.finals judged Full [] [] scans clean c)
+    ∙ judged_swept (without_starts old) judged mid.finals new.heap new.finals sweeps

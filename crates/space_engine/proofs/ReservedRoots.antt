@@ -10,6 +10,7 @@ use Rattle.space_model.specs.State.{State}
 use Rattle.space_model.proofs.Members.{member_left, member_cases}
 use Rattle.space_model.proofs.Reaching.{IsReached-start, IsReached-mono}
 use Rattle.space_model.proofs.WholeLaws.{counted_also}
+use Rattle.space_finals.specs.FinalLists.{FinalLists}
 use Rattle.space_heap.specs.HeapView.{HeapView}
 use Rattle.space_heap.specs.Marking.{unmarked}
 use Rattle.space_heap.specs.Objects.{is_object}
@@ -21,7 +22,7 @@ use Rattle.space_roots.specs.WordRoots.{root_word, root_words}
 use Rattle.space_roots.proofs.RootLemmas.{with_root_word-reserved, without_root-reserved}
 use Rattle.space_engine.specs.Allocations.{IsReserved, IsReservedAndSwept, IsSwept, IsRootedAllocation}
 use Rattle.space_engine.specs.Stands.{Holds}
-use Rattle.space_engine.specs.Views.{View, with_heap, with_judged, with_root_dropped, with_root_reserved, with_root_written}
+use Rattle.space_engine.specs.Views.{View, with_finals, with_judged, with_swept, with_root_dropped, with_root_reserved, with_root_written}
 use Rattle.space_engine.specs.HeapCollections.{IsTelling, IsHeapCompletion, IsHeapCollection}
 use Rattle.space_engine.specs.Turns.{IsAtRest}
 use Rattle.space_engine.proofs.Collecting.{completes_to}
@@ -29,40 +30,42 @@ use Rattle.space_engine.proofs.FieldWords.{nothing_at_zero}
 use Rattle.space_engine.proofs.Purges.{completed_view}
 
 module _ (v : View) (root : List ℕ) where
-  written_again : (heap : HeapView) (is_new : Bool) (word : ℕ) → (IsTrue is_new → root_word v.roots root ≡ None) →
-      with_root_written (with_heap (with_root_reserved v root is_new) heap) root word ≡ with_root_written (with_heap v heap) root word
-  written_again heap true word none = ap (λ roots. record (with_heap v heap) { roots = roots }) (with_root_word-reserved v.roots root 0 word (none refl))
-  written_again heap false word none = refl
+  written_again : (heap : HeapView) (finals : FinalLists) (is_new : Bool) (word : ℕ) → (IsTrue is_new → root_word v.roots root ≡ None) →
+      with_root_written (with_swept (with_root_reserved v root is_new) heap finals) root word ≡ with_root_written (with_swept v heap finals) root word
+  written_again heap finals true word none =
+      ap (λ roots. record (with_swept v heap finals) { roots = roots }) (with_root_word-reserved v.roots root 0 word (none refl))
+  written_again heap finals false word none = refl
 
-  dropped_again : (heap : HeapView) (is_new : Bool) → (IsTrue is_new → root_word v.roots root ≡ None) →
-      (if is_new then with_root_dropped (with_heap (with_root_reserved v root is_new) heap) root else with_heap
-      (with_root_reserved v root is_new) heap) ≡ with_heap v heap
-  dropped_again heap true none = ap (λ roots. record (with_heap v heap) { roots = roots }) (without_root-reserved v.roots root 0 (none refl))
-  dropped_again heap false none = refl
+  dropped_again : (heap : HeapView) (finals : FinalLists) (is_new : Bool) → (IsTrue is_new → root_word v.roots root ≡ None) →
+      (if is_new then with_root_dropped (with_swept (with_root_reserved v root is_new) heap finals) root else with_swept
+      (with_root_reserved v root is_new) heap finals) ≡ with_swept v heap finals
+  dropped_again heap finals true none = ap (λ roots. record (with_swept v heap finals) { roots = roots }) (without_root-reserved v.roots root 0 (none refl))
+  dropped_again heap finals false none = refl
 
 module _ (v r : View) (root : List ℕ) (is_new : Bool) (reserved : IsReserved v r root is_new) where
   -- the root holds a new object as it would have without
-  allocated_reserved : (z : HeapView) (w : View) (fields : ℕ) (guard : Guard) (style : Style) (name a : ℕ) →
-      IsRootedAllocation (with_heap r z) w root fields guard style name a → IsRootedAllocation (with_heap v z) w root fields guard style name a
-  allocated_reserved z w fields guard style name a allocated = record {
+  allocated_reserved : (z : HeapView) (g : FinalLists) (w : View) (fields : ℕ) (guard : Guard) (style : Style) (name a : ℕ) →
+      IsRootedAllocation (with_swept r z g) w root fields guard style name a → IsRootedAllocation (with_swept v z g) w root fields guard style name a
+  allocated_reserved z g w fields guard style name a allocated = record {
     was_sound = allocated.was_sound;
     swept = allocated.swept;
     sweeps = allocated.sweeps;
     sound = allocated.sound;
     allocation = allocated.allocation;
-    becomes = allocated.becomes ∙ ap (λ (r : View). with_root_written (with_heap r w.heap) root a) reserved.becomes
-        ∙ written_again v root w.heap is_new a reserved.absent;
+    becomes = allocated.becomes ∙ ap (λ (r : View). with_root_written (with_swept r w.heap w.finals) root a) reserved.becomes
+        ∙ written_again v root w.heap w.finals is_new a reserved.absent;
   }
 
   -- nothing is left of the place of a root that is taken away again
-  pub dropped_reserved : (z : HeapView) → (if is_new then with_root_dropped (with_heap r z) root else with_heap r z) ≡ with_heap v z
-  dropped_reserved z =
-      ap (λ (r : View). if is_new then with_root_dropped (with_heap r z) root else with_heap r z) reserved.becomes
-      ∙ dropped_again v root z is_new reserved.absent
+  pub dropped_reserved : (z : HeapView) (g : FinalLists) →
+      (if is_new then with_root_dropped (with_swept r z g) root else with_swept r z g) ≡ with_swept v z g
+  dropped_reserved z g =
+      ap (λ (r : View). if is_new then with_root_dropped (with_swept r z g) root else with_swept r z g) reserved.becomes
+      ∙ dropped_again v root z g is_new reserved.absent
 
-  -- a verdict leaves the place, which has no part in ids and weak maps
-  pub judged_reserved : (z : HeapView) → IsReserved (with_judged v z) (with_judged r z) root is_new
-  judged_reserved z = record { becomes = ap (λ (u : View). with_judged u z) reserved.becomes; absent = reserved.absent }
+  -- a collection leaves the place, which has no part in ids, weak maps and finalizers
+  pub judged_reserved : (z : HeapView) (g : FinalLists) → IsReserved (with_finals (with_judged v z) g) (with_finals (with_judged r z) g) root is_new
+  judged_reserved z g = record { becomes = ap (λ (u : View). with_finals (with_judged u z) g) reserved.becomes; absent = reserved.absent }
 
   -- the heap is as it was
   pub heap_reserved : r.heap ≡ v.heap
@@ -72,19 +75,20 @@ module _ (v r : View) (root : List ℕ) (is_new : Bool) (reserved : IsReserved v
   pub allocated_at_once : (w : View) (fields : ℕ) (guard : Guard) (style : Style) (name a : ℕ) → IsRootedAllocation r w root fields guard style name a →
       IsRootedAllocation v w root fields guard style name a
   allocated_at_once w fields guard style name a allocated =
-      let kept = allocated_reserved r.heap w fields guard style name a allocated in
-      subst (λ heap. IsRootedAllocation (with_heap v heap) w root fields guard style name a) heap_reserved kept
+      let kept = allocated_reserved r.heap r.finals w fields guard style name a allocated in
+      subst (λ (u : View). IsRootedAllocation (with_swept v u.heap u.finals) w root fields guard style name a) reserved.becomes kept
 
   -- where only pages were swept, nothing else is left
-  pub dropped_swept : (w z : View) (pool : ℕ) → IsSwept r w pool → z ≡ (if is_new then with_root_dropped w root else w) → z ≡ with_heap v w.heap
+  pub dropped_swept : (w z : View) (pool : ℕ) → IsSwept r w pool → z ≡ (if is_new then with_root_dropped w root else w) →
+      z ≡ with_swept v w.heap w.finals
   dropped_swept w z pool swept dropped =
-      dropped ∙ ap (λ (u : View). if is_new then with_root_dropped u root else u) swept.becomes ∙ dropped_reserved w.heap
+      dropped ∙ ap (λ (u : View). if is_new then with_root_dropped u root else u) swept.becomes ∙ dropped_reserved w.heap w.finals
 
 -- a place was made for the root and then pages were swept: it is as if the place was made after the sweeps
 pub reserved_after : (v w : View) (root : List ℕ) (is_new : Bool) (pool : ℕ) → IsReservedAndSwept v w root is_new pool →
-    IsReserved (with_heap v w.heap) w root is_new
+    IsReserved (with_swept v w.heap w.finals) w root is_new
 reserved_after v w root is_new pool r = record {
-  becomes = r.swept.becomes ∙ ap (λ (u : View). with_heap u w.heap) r.reserves.becomes;
+  becomes = r.swept.becomes ∙ ap (λ (u : View). with_swept u w.heap w.finals) r.reserves.becomes;
   absent = r.reserves.absent;
 }
 
@@ -178,13 +182,15 @@ module _ (old new : HeapView) (roots others stack : List ℕ) (scans : ℕ) (eve
       }
 
 -- the place that is made for a root has no part in a collection
-module _ (v : View) (s : State) (h : Holds v s) (rests : IsAtRest v.heap) (z : HeapView) (ended scans : ℕ) (events : List Event) where
+module _ (v : View) (s : State) (h : Holds v s) (rests : IsAtRest v.heap) (z : HeapView) (g : FinalLists) (ended scans : ℕ)
+    (events : List Event) where
   abbrev words : List ℕ
   words = root_words v.roots
 
-  same_completion : (idle : HeapView) (completion : List Event) → IsHeapCompletion v.heap idle (words ++ 0 ∷ []) v.stack ended completion →
-      IsHeapCompletion v.heap idle words v.stack ended completion
-  same_completion idle completion c = record {
+  same_completion : (idle : HeapView) (finals : FinalLists) (completion : List Event) →
+      IsHeapCompletion v.heap v.finals idle finals (words ++ 0 ∷ []) v.stack ended completion →
+      IsHeapCompletion v.heap v.finals idle finals words v.stack ended completion
+  same_completion idle finals completion c = record {
     marking = λ marking.
         let both = c.marking marking in
         record {
@@ -199,12 +205,12 @@ module _ (v : View) (s : State) (h : Holds v s) (rests : IsAtRest v.heap) (z : H
   }
 
   -- the words of the roots are the same after the completion, and there too nothing lies at 0
-  same_collection : IsHeapCollection v.heap z Full (words ++ 0 ∷ []) v.stack ended scans events →
-      IsHeapCollection v.heap z Full words v.stack ended scans events
+  same_collection : IsHeapCollection v.heap v.finals z g Full (words ++ 0 ∷ []) v.stack ended scans events →
+      IsHeapCollection v.heap v.finals z g Full words v.stack ended scans events
   same_collection c =
-      let completes = same_completion c.idle c.completion c.completes in
-      let to = completes_to v s h rests c.idle ended c.completion completes in
-      let nothing = nothing_at_zero (completed_view v c.idle) to.state to.holds in
+      let completes = same_completion c.idle g c.completion c.completes in
+      let to = completes_to v s h rests c.idle g ended c.completion completes in
+      let nothing = nothing_at_zero (completed_view v c.idle g) to.state to.holds in
       record {
         idle = c.idle;
         completion = c.completion;
@@ -215,14 +221,14 @@ module _ (v : View) (s : State) (h : Holds v s) (rests : IsAtRest v.heap) (z : H
       }
 
   collection_before : (root : List ℕ) (is_new : Bool) →
-      IsHeapCollection v.heap z Full (root_words (with_root_reserved v root is_new).roots) v.stack ended scans events →
-      IsHeapCollection v.heap z Full words v.stack ended scans events
+      IsHeapCollection v.heap v.finals z g Full (root_words (with_root_reserved v root is_new).roots) v.stack ended scans events →
+      IsHeapCollection v.heap v.finals z g Full words v.stack ended scans events
   collection_before root true c = same_collection
-      (subst (λ words. IsHeapCollection v.heap z Full words v.stack ended scans events)
+      (subst (λ words. IsHeapCollection v.heap v.finals z g Full words v.stack ended scans events)
       (map-append (λ (root : List ℕ × ℕ). root.1) v.roots ((root, 0) ∷ [])) c)
   collection_before root false c = c
 
   pub collection_reserved : (r : View) (root : List ℕ) (is_new : Bool) → IsReserved v r root is_new →
-      IsHeapCollection r.heap z Full (root_words r.roots) r.stack ended scans events → IsHeapCollection v.heap z Full words v.stack ended scans events
+      IsHeapCollection r.heap r.finals z g Full (root_words r.roots) r.stack ended scans events → IsHeapCollection v.heap v.finals z g Full words v.stack ended scans events
   collection_reserved r root is_new reserved c = collection_before root is_new
-      (subst (λ (r : View). IsHeapCollection r.heap z Full (root_words r.roots) r.stack ended scans events) reserved.becomes c)
+      (subst (λ (r : View). IsHeapCollection r.heap r.finals z g Full (root_words r.roots) r.stack ended scans events) reserved.becomes c)

@@ -38,6 +38,7 @@ module _ (v : View) (s : State) (h : Holds v s) (name address index : ℕ) (valu
     stack = h.represents.stack;
     ids = ids_led s.heap.place v.heap w (resolved-with_object v.heap address _) s.tables.ids v.ids h.represents.ids;
     weak = weak_led s.heap.place v.heap w (resolved-with_object v.heap address _) s.tables.weak v.weak h.represents.weak;
+    finals = h.represents.finals;
   }
 
   -- a field of any object holds it, by the rules of the write barrier
@@ -56,4 +57,5 @@ module _ (v : View) (s : State) (h : Holds v s) (name address index : ℕ) (valu
         stack = h.represents.stack;
         ids = ids_led s.heap.place v.heap z (λ a. barrier.same.moves a ∙ resolved-with_object v.heap address _ a) s.tables.ids v.ids h.represents.ids;
         weak = weak_led s.heap.place v.heap z (λ a. barrier.same.moves a ∙ resolved-with_object v.heap address _ a) s.tables.weak v.weak h.represents.weak;
+        finals = h.represents.finals;
       }

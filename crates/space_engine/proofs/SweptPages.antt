@@ -1,45 +1,46 @@
--- After the sweep of the first page that waits, and of one page after another, the heap has what the state has after it.
+-- After the sweep of the first page that waits, and of one page after another, the heap and the finalizers have what the state has after it.
 use Rattle.std.proofs.Common.{◌≡◌, ◌≢◌, ◌+◌, ◌<◌, ◌&&◌, not, ℕ, zero, suc, Bool, true, false, true≢false, List, [], ◌∷◌, length, map, get_or, ◌++◌, refl, sym, ap, ◌∙◌, subst, nat_eq, arith, Option, None, Some, ⊎_elim}
 use Rattle.std.specs.Prelude.{unwrap_or}
 use Rattle.std.specs.Ordering.{nat_cmp}
 use Rattle.std.specs.Set.{is_member}
 use Rattle.std.specs.FinMap.{FinMap, get}
 use Rattle.std.proofs.Math.ListN.{length-map}
-use Rattle.std.proofs.lemmas.Bool.{cases_Bool, cases_eq, and_parts, cond-true, cond-false}
+use Rattle.std.proofs.lemmas.Bool.{cases_Bool, cases_eq, and_parts, or_left, or_right, eq-eqb, cond-true, cond-false}
 use Rattle.std.proofs.lemmas.Bool.Decides.{nat_tests}
 use Rattle.std.proofs.lemmas.Map.Keys.{IsDistinct-from_apart}
 use Rattle.space_model.specs.declared.phase.Phase.{Phase}
 use Rattle.space_model.specs.declared.phase.Phase.TheVariants.{Sweeping}
 use Rattle.space_model.specs.Sweeps.{AreCorpsesOn, swept, sweep_phase, Sweep1, Sweeps}
-use Rattle.space_model.specs.Counts.{CountIs}
 use Rattle.space_model.specs.Layout.{page_of}
-use Rattle.space_model.specs.Maps.{without}
+use Rattle.space_model.specs.Maps.{address_in, without}
 use Rattle.space_model.specs.Moments.{mixed_names, noted}
-use Rattle.space_model.specs.Pages.{pool_at as pool_of_page, is_used, spared}
+use Rattle.space_model.specs.Pages.{StandsOn, pool_at as pool_of_page, is_used, spared}
 use Rattle.space_model.specs.Sound.{SoundSweep}
 use Rattle.space_model.specs.State.{State}
 use Rattle.space_model.proofs.CollectionsKept.{Sound-swept}
-use Rattle.space_model.proofs.CorpseNames.{corpse_names, corpse_names-are}
 use Rattle.space_model.proofs.MapLaws.{get-without, held_without}
 use Rattle.space_model.proofs.MarkingKept.{sweeps_mark_none}
 use Rattle.space_model.proofs.PageLaws.{pool_at-spared, pool_at-spared_page, length-spared, user, used_by}
+use Rattle.space_model.proofs.RisingNames.{IsRising-from_addresses}
 use Rattle.space_model.proofs.SweepKept.{sweeping}
+use Rattle.space_model.proofs.ToldNames.{IsDistinct-rising}
 use Rattle.space_model.proofs.VerdictLaws.{CountIs-unique}
+use Rattle.space_finals.specs.FinalLists.{FinalLists}
 use Rattle.space_heap.specs.HeapView.{HeapView, Counters as HeapCounters, pool_at}
 use Rattle.space_heap.specs.Objects.{is_occupied, is_object, object_of, HasNoMoved}
 use Rattle.space_heap.specs.SoundHeap.{IsSoundHeap}
 use Rattle.space_heap.specs.Sweeping.{is_gone, IsGoneOn}
-use Rattle.space_heap.proofs.NumberLists.{IsDistinct-map}
 use Rattle.space_heap.proofs.ObjectLaws.{is_object_is}
 use Rattle.space_sweep.specs.Sweeps.{SweepsFirst, phase_left}
 use Rattle.space_collector.specs.GoneNames.{name_at}
-use Rattle.space_collector.specs.PagesSwept.{SweepsPages}
+use Rattle.space_collector.specs.PagesSwept.{SweepsPage, SweepsPages}
 use Rattle.space_collector.proofs.PageSweeps.{count-first, phase-first, unswept-first, is_object-first, object_stays-first, stands_here-first, stands_other-first, object_other-first, is_moved-first, resolved-first, pool_other-first, pool_kept-first, pool_spare-first, limit-first, cursor-first, grey_list-first, counters-first}
 use Rattle.space_collector.proofs.SoundSweeps.{sound-first}
 use Rattle.space_engine.specs.Stands.{HasObjects, HasCorpses, HasLeft, HasPages, HasProgress, HasCounted, Represents, Holds}
-use Rattle.space_engine.specs.Views.{View, with_heap}
+use Rattle.space_engine.specs.Views.{View, with_swept}
 use Rattle.space_engine.proofs.GenerationsByName.{generations_same}
 use Rattle.space_engine.proofs.Outcomes.{some_same}
+use Rattle.space_engine.proofs.QueuedNames.{AreQueued, names_queued}
 use Rattle.space_engine.proofs.Reaching.{member_map, member_unmap}
 use Rattle.space_engine.proofs.ResolvedRoots.{resolved_roots-same}
 use Rattle.space_engine.proofs.TablesKept.{ids_led, weak_led}
@@ -58,15 +59,31 @@ gone_from true true e f = refl
 gone_from true false e f = absurd (true≢false f)
 gone_from false gone e f = absurd (true≢false (sym e))
 
-module _ (v : View) (s : State) (h : Holds v s) (sound : IsSoundHeap v.heap) (z : HeapView) (freed : ℕ) (step : SweepsFirst v.heap z freed) where
+-- addresses are those of their names
+back_again : (corpses : FinMap nat_cmp ℕ) (heap : HeapView) (addresses : List ℕ) →
+    ((a : ℕ) → is_member nat_eq addresses a ≡ true → get corpses (name_at heap a) ≡ Some a) →
+    map (address_in corpses) (map (name_at heap) addresses) ≡ addresses
+back_again corpses heap [] lie = refl
+back_again corpses heap (a ∷ addresses) lie =
+    let first : address_in corpses (name_at heap a) ≡ a = ap (λ o. unwrap_or o 0) (lie a (or_left _ _ (eq-eqb a a refl))) in
+    let others = back_again corpses heap addresses (λ b m. lie b (or_right (nat_eq b a) _ m)) in
+    λ i. first i ∷ others i
+
+module _ (v : View) (s : State) (h : Holds v s) (sound : IsSoundHeap v.heap) (z : HeapView) (g : FinalLists) (sweep : SweepsPage v.heap v.finals z g) where
   abbrev heap : HeapView
   heap = v.heap
+
+  abbrev freed : ℕ
+  freed = sweep.freed
+
+  abbrev step : SweepsFirst heap z freed
+  step = sweep.sweeps
 
   abbrev page : ℕ
   page = step.page
 
   abbrev names : List ℕ
-  names = corpse_names s.heap.corpses page
+  names = sweep.names
 
   abbrev corpses' : FinMap nat_cmp ℕ
   corpses' = without s.heap.corpses names
@@ -81,8 +98,35 @@ module _ (v : View) (s : State) (h : Holds v s) (sound : IsSoundHeap v.heap) (z 
   first : s.heap.unswept ≡ page ∷ step.others
   first = h.represents.heap.pages.waiting ∙ step.first
 
+  -- a gone object is a corpse
+  lies_at : (a : ℕ) → IsGoneOn heap page a → get s.heap.corpses (name_at heap a) ≡ Some a
+  lies_at a (gone, on) =
+      let parts = and_parts _ _ gone in
+      h.represents.heap.corpses.only a parts.0 (is_object_is heap a ∙ gone_is (is_occupied heap a) (object_of heap a).gone gone)
+
+  is_corpse : (n : ℕ) → is_member nat_eq names n ≡ true → StandsOn s.heap.corpses page n
+  is_corpse n m =
+      let u = member_unmap (name_at heap) sweep.gone.addresses n (ap (λ names. is_member nat_eq names n) (sym sweep.gone.names_are) ∙ m) in
+      let there = (sweep.gone.are u.0).0 u.1 in
+      (u.0, ap (get s.heap.corpses) u.2 ∙ lies_at u.0 there, there.1)
+
+  has_corpse : (n : ℕ) → StandsOn s.heap.corpses page n → is_member nat_eq names n ≡ true
+  has_corpse n (a, lay, on) =
+      let gone : is_gone heap a ≡ true =
+      gone_from (is_occupied heap a) (object_of heap a).gone (h.represents.heap.corpses.lies n a lay)
+      (sym (is_object_is heap a) ∙ h.represents.heap.corpses.gone n a lay) in
+      ap (λ names. is_member nat_eq names n) sweep.gone.names_are
+      ∙ subst (λ n. is_member nat_eq (map (name_at heap) sweep.gone.addresses) n ≡ true) (h.represents.heap.corpses.named n a lay)
+      (member_map (name_at heap) sweep.gone.addresses a ((sweep.gone.are a).1 (gone, on)))
+
   on_page : AreCorpsesOn s.heap.corpses page names
-  on_page = corpse_names-are s.graph s.heap.pages s.heap.corpses page h.sound.corpses.slots
+  on_page = record {
+    are = λ n. (is_corpse n, has_corpse n);
+    rising = IsRising-from_addresses s.heap.corpses names sweep.gone.addresses
+        (ap (map (address_in s.heap.corpses)) sweep.gone.names_are
+        ∙ back_again s.heap.corpses heap sweep.gone.addresses (λ a m. lies_at a ((sweep.gone.are a).0 m)))
+        sweep.gone.rising;
+  }
 
   pub sweep_is : Sweep1 s names t
   sweep_is = record { page = page; others = step.others; first = first; corpses = on_page; after = refl }
@@ -180,52 +224,20 @@ module _ (v : View) (s : State) (h : Holds v s) (sound : IsSoundHeap v.heap) (z 
   }
 
   -- as many corpses were freed as slots
-  abbrev IsCorpseOn : ℕ → Type 0
-  IsCorpseOn n = (address : ℕ) × (get s.heap.corpses n ≡ Some address) × (page_of address ≡ page)
-
-  lies_at : (a : ℕ) → IsGoneOn heap page a → get s.heap.corpses (object_of heap a).name ≡ Some a
-  lies_at a (gone, on) =
-      let parts = and_parts _ _ gone in
-      h.represents.heap.corpses.only a parts.0 (is_object_is heap a ∙ gone_is (is_occupied heap a) (object_of heap a).gone gone)
-
-  corpses_counted : CountIs IsCorpseOn freed
-  corpses_counted = record {
-    names = map (name_at heap) step.count.names;
-    once = IsDistinct-map (name_at heap) step.count.names
-        (λ a b m n same. some_same a b (sym (lies_at a ((step.count.are a).0 m)) ∙ ap (get s.heap.corpses) same ∙ lies_at b ((step.count.are b).0 n)))
-        step.count.once;
-    are = λ name. (
-      λ m.
-          let u = member_unmap (name_at heap) step.count.names name m in
-          let g = (step.count.are u.0).0 u.1 in
-          (u.0, ap (get s.heap.corpses) u.2 ∙ lies_at u.0 g, g.1),
-      λ (a, lay, on).
-          let gone : is_gone heap a ≡ true =
-          gone_from (is_occupied heap a) (object_of heap a).gone (h.represents.heap.corpses.lies name a lay)
-          (sym (is_object_is heap a) ∙ h.represents.heap.corpses.gone name a lay) in
-          subst (λ n. is_member nat_eq (map (name_at heap) step.count.names) n ≡ true) (h.represents.heap.corpses.named name a lay)
-          (member_map (name_at heap) step.count.names a ((step.count.are a).1 (gone, on))),
-    );
-    long = length-map step.count.names (name_at heap) ∙ step.count.long;
-  }
-
   pub names_freed : length names ≡ freed
-  names_freed = CountIs-unique IsCorpseOn (length names) freed
-      (record {
-        names = names;
-        once = IsDistinct-from_apart nat_eq names
-            (λ i j d lt within. let rising = on_page.rising i j d lt within in apart (get_or names i d) (get_or names j d) rising);
-        are = on_page.are;
+  names_freed =
+      ap length sweep.gone.names_are
+      ∙ length-map sweep.gone.addresses (name_at heap)
+      ∙ CountIs-unique (IsGoneOn heap page) (length sweep.gone.addresses) freed (record {
+        names = sweep.gone.addresses;
+        once = IsDistinct-from_apart nat_eq sweep.gone.addresses
+            (λ i j d lt within. let rising = sweep.gone.rising i j d lt within in apart (get_or sweep.gone.addresses i d) (get_or sweep.gone.addresses j d) rising);
+        are = sweep.gone.are;
         long = refl;
-      })
-      corpses_counted
+      }) step.count
     where
-      apart : (n m : ℕ) → unwrap_or (get s.heap.corpses n) 0 < unwrap_or (get s.heap.corpses m) 0 → nat_eq n m ≡ false
-      apart n m below = ⊎_elim
-          (λ same. absurd (let e : unwrap_or (get s.heap.corpses n) 0 ≡ unwrap_or (get s.heap.corpses m) 0 = ap
-          (λ n. unwrap_or (get s.heap.corpses n) 0) same in omega arith))
-          (λ other. grind (arith, nat_tests, other))
-          (cases_eq n m)
+      apart : (x y : ℕ) → x < y → nat_eq x y ≡ false
+      apart x y below = grind (arith, nat_tests, below)
 
   counter : (f : HeapCounters → ℕ) → f z.counters ≡ f (record heap.counters { freed = heap.counters.freed + freed })
   counter f = ap f (counters-first heap z freed step sound)
@@ -240,7 +252,12 @@ module _ (v : View) (s : State) (h : Holds v s) (sound : IsSoundHeap v.heap) (z 
     moves = counter (λ (c : HeapCounters). c.moves) ∙ h.represents.heap.counted.moves;
   }
 
-  pub swept_represents : Represents (with_heap v z) t
+  -- their finalizers wait after those that waited
+  queued : AreQueued s.tables.finals s.tables.queue names g
+  queued = names_queued s.tables.finals s.tables.queue v.finals names g h.represents.finals.defined h.represents.finals.waiting
+      (IsDistinct-rising s.heap.corpses names on_page.rising) sweep.queues
+
+  pub swept_represents : Represents (with_swept v z g) t
   swept_represents = record {
     heap = record {
       objects = objects_stay;
@@ -258,26 +275,33 @@ module _ (v : View) (s : State) (h : Holds v s) (sound : IsSoundHeap v.heap) (z 
     stack = h.represents.stack;
     ids = ids_led s.heap.place heap z (resolved-first heap z freed step) s.tables.ids v.ids h.represents.ids;
     weak = weak_led s.heap.place heap z (resolved-first heap z freed step) s.tables.weak v.weak h.represents.weak;
+    finals = record { defined = queued.defined; waiting = queued.waits };
   }
 
-  pub swept_holds : Holds (with_heap v z) t
+  pub swept_holds : Holds (with_swept v z g) t
   swept_holds = record { represents = swept_represents; sound = Sound-swept s t names sweep_is h.sound }
 
 -- what the space stands for after so many pages were swept
-pub record SweepsTo (v : View) (s : State) (z : HeapView) (pages : ℕ) : Type 0 where
+pub record SweepsTo (v : View) (s : State) (z : HeapView) (g : FinalLists) (pages : ℕ) : Type 0 where
   pub freed : List ℕ
   pub state : State
   pub sweeps : Sweeps pages s freed state
-  pub holds : Holds (with_heap v z) state
+  pub holds : Holds (with_swept v z g) state
 
-pub swept_pages_hold : (pages : ℕ) (v : View) (s : State) (z : HeapView) → Holds v s → IsSoundHeap v.heap → SweepsPages pages v.heap z → SweepsTo v s z pages
-swept_pages_hold zero v s z h sound same = record { freed = []; state = s; sweeps = (refl, refl); holds = rw same h }
-swept_pages_hold (suc pages) v s z h sound (freed, mid, first, others) =
-    let now = swept_holds v s h sound mid freed first in
-    let later = swept_pages_hold pages (with_heap v mid) (t v s h sound mid freed first) z now (sound-first v.heap mid freed first sound) others in
+-- or none
+pub holds_unswept : (v : View) (s : State) (z : HeapView) (g : FinalLists) → Holds v s → (z ≡ v.heap) × (g ≡ v.finals) → Holds (with_swept v z g) s
+holds_unswept v s z g h (same, none) = rw (same, none) h
+
+pub swept_pages_hold : (pages : ℕ) (v : View) (s : State) (z : HeapView) (g : FinalLists) → Holds v s → IsSoundHeap v.heap →
+    SweepsPages pages v.heap v.finals z g → SweepsTo v s z g pages
+swept_pages_hold zero v s z g h sound same = record { freed = []; state = s; sweeps = (refl, refl); holds = holds_unswept v s z g h same }
+swept_pages_hold (suc pages) v s z g h sound (mid, between, first, others) =
+    let now = swept_holds v s h sound mid between first in
+    let later = swept_pages_hold pages (with_swept v mid between) (t v s h sound mid between first) z g now
+    (sound-first v.heap mid first.freed first.sweeps sound) others in
     record {
-      freed = corpse_names s.heap.corpses first.page ++ later.freed;
+      freed = first.names ++ later.freed;
       state = later.state;
-      sweeps = (corpse_names s.heap.corpses first.page, later.freed, t v s h sound mid freed first, refl, sweep_is v s h sound mid freed first, later.sweeps);
+      sweeps = (first.names, later.freed, t v s h sound mid between first, refl, sweep_is v s h sound mid between first, later.sweeps);
       holds = later.holds;
     }

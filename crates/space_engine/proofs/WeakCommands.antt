@@ -61,6 +61,7 @@ module _ (v : View) (s : State) (h : Holds v s) where
     stack = h.represents.stack;
     ids = h.represents.ids;
     weak = has;
+    finals = h.represents.finals;
   }
 
   -- a key has a value in the state where it has an entry

@@ -10,7 +10,7 @@ use Rattle.space_heap.specs.HeapView.{HeapView}
 use Rattle.space_heap.specs.SoundHeap.{IsSoundHeap}
 use Rattle.space_roots.specs.WordRoots.{root_word}
 use Rattle.space_collector.specs.PagesSwept.{SweepsUntilFree}
-use Rattle.space_engine.specs.Views.{View, with_heap, with_root_dropped, with_root_reserved, with_root_written}
+use Rattle.space_engine.specs.Views.{View, with_swept, with_root_dropped, with_root_reserved, with_root_written}
 
 -- w is v after a place was made for the root, which tells whether it is new
 pub record IsReserved (v w : View) (root : List ℕ) (is_new : Bool) : Type 0 where
@@ -23,18 +23,18 @@ pub record IsRootedAllocation (v w : View) (root : List ℕ) (fields : ℕ) (gua
   pub was_sound : IsSoundHeap v.heap
   -- the heap after the sweeps
   pub swept : HeapView
-  pub sweeps : SweepsUntilFree v.heap swept (pool_for fields)
+  pub sweeps : SweepsUntilFree v.heap v.finals swept w.finals (pool_for fields)
   pub sound : IsSoundHeap swept
   pub allocation : IsAllocation swept w.heap fields guard style name address
-  pub becomes : w ≡ with_root_written (with_heap v w.heap) root address
+  pub becomes : w ≡ with_root_written (with_swept v w.heap w.finals) root address
 
 -- pages were swept until an address was free for the pool, or none waited, and nothing else was done
 pub record IsSwept (v w : View) (pool : ℕ) : Type 0 where
   -- of every heap this holds
   pub was_sound : IsSoundHeap v.heap
-  pub sweeps : SweepsUntilFree v.heap w.heap pool
+  pub sweeps : SweepsUntilFree v.heap v.finals w.heap w.finals pool
   pub sound : IsSoundHeap w.heap
-  pub becomes : w ≡ with_heap v w.heap
+  pub becomes : w ≡ with_swept v w.heap w.finals
 
 -- a place was made for the root, and then pages were swept
 pub record IsReservedAndSwept (v w : View) (root : List ℕ) (is_new : Bool) (pool : ℕ) : Type 0 where
@@ -46,9 +46,9 @@ pub record IsReservedAndSwept (v w : View) (root : List ℕ) (is_new : Bool) (po
 pub record IsGivenUp (v w : View) (root : List ℕ) (is_new : Bool) (pool : ℕ) : Type 0 where
   -- of every heap this holds
   pub was_sound : IsSoundHeap v.heap
-  pub sweeps : SweepsUntilFree v.heap w.heap pool
+  pub sweeps : SweepsUntilFree v.heap v.finals w.heap w.finals pool
   pub sound : IsSoundHeap w.heap
-  pub becomes : w ≡ (if is_new then with_root_dropped (with_heap v w.heap) root else with_heap v w.heap)
+  pub becomes : w ≡ (if is_new then with_root_dropped (with_swept v w.heap w.finals) root else with_swept v w.heap w.finals)
 
 -- the reply to an allocation where no new page takes memory: an object was allocated, and the root, whose place was made, holds it; or
 -- there is no room, and a root that is new was taken away again

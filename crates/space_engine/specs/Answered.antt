@@ -1,17 +1,18 @@
--- A command that was answered, with its events written, or a prefix of them.
+-- A command that was answered: with its events written, or with all its outputs; or with a prefix of them.
 use Rattle.std.specs.Prelude.{◌≡◌, ℕ, List, map, Option}
 use Rattle.std.specs.Io.KnownBytes.{Appends}
 use Rattle.space_io.specs.Sinks.{AppendsPrefix}
 use Rattle.space_model.specs.declared.command.Command.{Command}
 use Rattle.space_model.specs.declared.event.Event.{Event}
 use Rattle.space_model.specs.declared.reply.Reply.{Reply}
-use Rattle.space_model.specs.Outputs.{Told}
+use Rattle.space_model.specs.Outputs.{Output, Told}
 use Rattle.space_model.specs.Spelling.{IsSpelled}
 use Rattle.space_model.specs.State.{State}
 use Rattle.space_model.specs.Texts.{AreSpelled, text_of, reply_pieces}
+use Rattle.space_engine.specs.declared.counts.Counts.{Counts}
 use Rattle.space_engine.specs.Counting.{no_counts, counts_of}
 use Rattle.space_engine.specs.Stands.{Holds}
-use Rattle.space_engine.specs.Steps.{AnswersWith}
+use Rattle.space_engine.specs.Steps.{AnswersWith, Gives, AreDone}
 use Rattle.space_engine.specs.Ticks.{IsTicked}
 use Rattle.space_engine.specs.Views.{View}
 
@@ -35,3 +36,20 @@ pub record IsCutOff (old new : View) (command : Command) (before after : Option 
   pub lawful : IsLawfulAnswer old new command events reply
   pub reply_spelled : IsSpelled (reply_pieces reply)
   pub prefix : AppendsPrefix before after (text_of (map Told events))
+
+-- the outputs are lawful from each state that the view holds, and they can be spelled
+pub record AreLawful (old new : View) (command : Command) (outputs : List Output) : Type 0 where
+  pub gives : (s : State) → Holds old s → Gives s new command outputs
+  pub spelled : (s : State) → Holds old s → AreSpelled outputs
+
+-- some outputs are lawful, they were counted and written, and the ledger's count rose as they tell
+pub record IsWritten (old new : View) (command : Command) (counts : Counts) (before after : Option (List ℕ)) (ticks ticked : ℕ) : Type 0 where
+  pub outputs : List Output
+  pub lawful : AreLawful old new command outputs
+  pub done : (s : State) → Holds old s → AreDone s command counts before after ticks ticked outputs
+
+-- some outputs are lawful, and a prefix of their text was written
+pub record IsWrittenInPart (old new : View) (command : Command) (before after : Option (List ℕ)) : Type 0 where
+  pub outputs : List Output
+  pub lawful : AreLawful old new command outputs
+  pub prefix : AppendsPrefix before after (text_of outputs)

@@ -1,10 +1,10 @@
 -- What is counted of the outputs of commands.
 use Rattle.std.specs.Prelude.{◌+◌, List, [], ◌∷◌}
 use Rattle.space_model.specs.declared.event.Event.{Event}
-use Rattle.space_model.specs.declared.event.Event.TheVariants.{Gone, Verdict}
+use Rattle.space_model.specs.declared.event.Event.TheVariants.{Gone, Verdict, Ran}
 use Rattle.space_model.specs.declared.reply.Reply.{Reply}
 use Rattle.space_model.specs.declared.reply.Reply.TheVariants.{Made, Full, NoMemory, Refused}
-use Rattle.space_model.specs.Outputs.{Output, Told, Replied}
+use Rattle.space_model.specs.Outputs.{Output, Told, Listed, Peeked, Replied}
 use Rattle.space_engine.specs.declared.counts.Counts.{Counts}
 
 -- nothing was counted
@@ -19,10 +19,11 @@ reply_counts NoMemory = record no_counts { no_memory = 1 }
 reply_counts (Refused why) = record no_counts { errors = 1 }
 reply_counts _ = no_counts
 
--- each object that is gone counts
+-- each object that is gone and each finalizer that ran count
 abbrev pub event_counts : Event → Counts
 event_counts (Gone name) = record no_counts { gone = 1 }
 event_counts (Verdict kind gone) = no_counts
+event_counts (Ran name label) = record no_counts { finals = 1 }
 
 -- both together
 abbrev pub sum_of_counts : Counts → Counts → Counts
@@ -36,9 +37,11 @@ sum_of_counts a b = record {
   no_memory = a.no_memory + b.no_memory;
 }
 
--- what is counted of an event or a reply
+-- what is counted of an event or a reply; a shown object doesn't count
 abbrev pub output_counts : Output → Counts
 output_counts (Told event) = event_counts event
+output_counts (Listed line) = no_counts
+output_counts (Peeked address words) = no_counts
 output_counts (Replied reply) = reply_counts reply
 
 -- the sum over all outputs

@@ -1,4 +1,4 @@
--- What verdicts, completions and collections do to a heap, and which of their lines were written.
+-- What verdicts, completions and collections do to a heap and to finalizers, and which of their lines were written.
 use Rattle.std.specs.Prelude.{◌≡◌, ◌≢◌, ◌<◌, ◌≤◌, ◌+◌, ◌^◌, ℕ, List, [], ◌++◌, length, map, Option}
 use Rattle.std.specs.Io.KnownBytes.{Appends}
 use Rattle.space_io.specs.Sinks.{AppendsPrefix}
@@ -11,6 +11,7 @@ use Rattle.space_model.specs.declared.phase.Phase.TheVariants.{Marking}
 use Rattle.space_model.specs.Outputs.{Told}
 use Rattle.space_model.specs.Texts.{text_of}
 use Rattle.space_model.specs.Verdicts.{verdict_events}
+use Rattle.space_finals.specs.FinalLists.{FinalLists}
 use Rattle.space_heap.specs.HeapView.{HeapView}
 use Rattle.space_heap.specs.SoundHeap.{IsSoundHeap}
 use Rattle.space_collector.specs.GoneNames.{gone_names}
@@ -27,39 +28,62 @@ pub record IsTelling (old new : HeapView) (kind : Kind) (roots stack : List ℕ)
   pub events_are : events ≡ verdict_events kind (gone_names new)
 
 -- the marking that was under way was ended by a major verdict, and then every page was swept
-pub record EndsAndSweeps (old idle : HeapView) (roots stack : List ℕ) (scans : ℕ) (events : List Event) : Type 0 where
+pub record EndsAndSweeps (old : HeapView) (f : FinalLists) (idle : HeapView) (g : FinalLists) (roots stack : List ℕ) (scans : ℕ) (events : List Event) : Type 0 where
   -- the heap after the verdict
   pub judged : HeapView
   pub tells : IsTelling old judged Major roots stack scans events
-  pub sweeps : SweepsAll judged idle
+  pub sweeps : SweepsAll judged f idle g
 
 -- every page that waited was swept, and nothing else was done
-pub record OnlySweeps (old idle : HeapView) (scans : ℕ) (events : List Event) : Type 0 where
+pub record OnlySweeps (old : HeapView) (f : FinalLists) (idle : HeapView) (g : FinalLists) (scans : ℕ) (events : List Event) : Type 0 where
   -- of every heap this holds
   pub sound : IsSoundHeap old
-  pub sweeps : SweepsAll old idle
+  pub sweeps : SweepsAll old f idle g
   pub no_scans : scans ≡ 0
   pub no_events : events ≡ []
 
 -- what was under way was completed, with so many scans: a marking that was is ended first
-pub record IsHeapCompletion (old idle : HeapView) (roots stack : List ℕ) (scans : ℕ) (events : List Event) : Type 0 where
-  pub marking : old.phase ≡ Marking → EndsAndSweeps old idle roots stack scans events
-  pub others : old.phase ≢ Marking → OnlySweeps old idle scans events
+pub record IsHeapCompletion (old : HeapView) (f : FinalLists) (idle : HeapView) (g : FinalLists) (roots stack : List ℕ) (scans : ℕ) (events : List Event) : Type 0 where
+  pub marking : old.phase ≡ Marking → EndsAndSweeps old f idle g roots stack scans events
+  pub others : old.phase ≢ Marking → OnlySweeps old f idle g scans events
+
+-- `exit` up to the finalizers that run: what was under way was completed, with scans of its own, and then came a whole marking without roots and
+-- stack words, its verdict, and sweeps of all pages
+pub record IsHeapExit (old : HeapView) (f : FinalLists) (new : HeapView) (g : FinalLists) (roots stack : List ℕ) (ended : ℕ) (events : List Event) : Type 0 where
+  -- the heap and the finalizers after the completion
+  pub idle : HeapView
+  pub queued : FinalLists
+  pub completion : List Event
+  pub completes : IsHeapCompletion old f idle queued roots stack ended completion
+  -- the heap after the verdict
+  pub judged : HeapView
+  pub scans : ℕ
+  pub told : List Event
+  pub tells : IsTelling idle judged Full [] [] scans told
+  pub sweeps : SweepsAll judged queued new g
+  pub events_are : events ≡ completion ++ told
+
+-- the same, and the ledger's count rose by the scans of both
+pub record IsTickedExit (old : HeapView) (f : FinalLists) (new : HeapView) (g : FinalLists) (roots stack : List ℕ) (ticks ticked : ℕ) (events : List Event) : Type 0 where
+  pub ended : ℕ
+  pub exits : IsHeapExit old f new g roots stack ended events
+  pub rose : ticked ≡ ticks + ended + exits.scans
 
 -- a collection: what was under way was completed, with scans of its own, and then came a marking of the kind and its verdict
-pub record IsHeapCollection (old new : HeapView) (kind : Kind) (roots stack : List ℕ) (ended scans : ℕ) (events : List Event) : Type 0 where
+pub record IsHeapCollection (old : HeapView) (f : FinalLists) (new : HeapView) (g : FinalLists) (kind : Kind) (roots stack : List ℕ) (ended scans : ℕ) (events : List Event) : Type 0 where
   -- the heap after the completion
   pub idle : HeapView
   pub completion : List Event
-  pub completes : IsHeapCompletion old idle roots stack ended completion
+  pub completes : IsHeapCompletion old f idle g roots stack ended completion
   pub told : List Event
   pub tells : IsTelling idle new kind roots stack scans told
   pub events_are : events ≡ completion ++ told
 
 -- the same, and the ledger's count rose by the scans of both
-pub record IsTickedCollection (old new : HeapView) (kind : Kind) (roots stack : List ℕ) (scans ticks ticked : ℕ) (events : List Event) : Type 0 where
+pub record IsTickedCollection (old : HeapView) (f : FinalLists) (new : HeapView) (g : FinalLists) (kind : Kind) (roots stack : List ℕ) (scans ticks ticked : ℕ)
+    (events : List Event) : Type 0 where
   pub ended : ℕ
-  pub collects : IsHeapCollection old new kind roots stack ended scans events
+  pub collects : IsHeapCollection old f new g kind roots stack ended scans events
   pub rose : ticked ≡ ticks + ended + scans
 
 -- events of which this holds were written, and they tell of so many gone objects

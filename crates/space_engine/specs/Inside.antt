@@ -6,7 +6,7 @@ use Rattle.space_engine.specs.Views.{View, SpaceView}
 
 -- the parts of an engine
 abbrev pub view_of : EngineInside → View
-view_of a = record { heap = a.heap; roots = a.roots; stack = a.stack; ids = a.ids; weak = a.weak }
+view_of a = record { heap = a.heap; roots = a.roots; stack = a.stack; ids = a.ids; weak = a.weak; finals = a.finals }
 
 -- the whole space
 abbrev pub space_of : SpaceInside → SpaceView

@@ -2,6 +2,7 @@ pub mod Views
 pub mod Inside
 pub mod Allocations
 pub mod HeapCollections
+pub mod HeapDumps
 pub mod Words
 pub mod Turns
 pub mod Generations

@@ -16,6 +16,7 @@ use Rattle.space_model.specs.StoredWords.{stored_words}
 use Rattle.space_model.specs.WeakMaps.{weak_value}
 use Rattle.space_ids.specs.GivenIds.{GivenIds, names_in}
 use Rattle.space_weak.specs.WeakEntries.{Entry, entry_of, AreApart}
+use Rattle.space_finals.specs.FinalLists.{FinalLists, HaveSameLabels}
 use Rattle.space_engine.specs.Generations.{HasGenerations}
 use Rattle.space_engine.specs.Colours.{HasColours}
 use Rattle.space_engine.specs.Views.{View, SpaceView}
@@ -104,6 +105,11 @@ pub record HasWeakEntries (place : FinMap nat_cmp ℕ) (weak : List WeakEntry) (
   pub values : (map_name : List ℕ) (key : ℕ) → weak_value weak map_name key ≡ option_map (λ entry. entry.value_name) (entry_of entries map_name key)
   pub at : (map_name : List ℕ) (key : ℕ) (entry : Entry) → entry_of entries map_name key ≡ Some entry → IsEntryAt place heap entry
 
+-- each name has the same finalizers, and the same wait to run, in the same order
+pub record HasFinals (finals queue : List (ℕ × List ℕ)) (lists : FinalLists) : Type 0 where
+  pub defined : HaveSameLabels lists.finals finals
+  pub waiting : lists.queue ≡ queue
+
 -- the view has what the state has: the words of roots are those of their values, once they are resolved, and the stack's are the same
 pub record Represents (v : View) (s : State) : Type 0 where
   pub heap : HeapRepresents s.graph s.heap s.collector s.counters v.heap
@@ -113,6 +119,7 @@ pub record Represents (v : View) (s : State) : Type 0 where
   pub stack : s.stack ≡ v.stack
   pub ids : HasIds s.heap.place s.tables.ids v.ids v.heap
   pub weak : HasWeakEntries s.heap.place s.tables.weak v.weak v.heap
+  pub finals : HasFinals s.tables.finals s.tables.queue v.finals
 
 -- the view has what a sound state has
 pub record Holds (v : View) (s : State) : Type 0 where

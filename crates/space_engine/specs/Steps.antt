@@ -2,7 +2,7 @@
 use Rattle.std.specs.Prelude.{◌≡◌, ℕ, List, [], ◌∷◌, Option}
 use Rattle.std.specs.Io.KnownBytes.{Appends}
 use Rattle.space_model.specs.declared.command.Command.{Command}
-use Rattle.space_model.specs.declared.command.Command.TheVariants.{New, Minor, Gc, Major, Finish}
+use Rattle.space_model.specs.declared.command.Command.TheVariants.{New, Run, Minor, Gc, Major, Finish, Dump, Peek, Exit}
 use Rattle.space_model.specs.declared.event.Event.{Event}
 use Rattle.space_model.specs.declared.reply.Reply.{Reply}
 use Rattle.space_model.specs.declared.reply.Reply.TheVariants.{Read}
@@ -18,13 +18,25 @@ use Rattle.space_engine.specs.Views.{View, SpaceView}
 use Rattle.space_engine.specs.Stands.{Represents, Stands}
 use Rattle.space_engine.specs.Ticks.{AreTicked}
 
--- the command tells no events
+-- the command isn't one that runs finalizers or shows objects: its outputs are events that tell of gone objects, and one reply
+abbrev pub IsPlain : Command → Type 0
+IsPlain (Run count) = ⊥
+IsPlain Dump = ⊥
+IsPlain (Peek object) = ⊥
+IsPlain Exit = ⊥
+IsPlain _ = Unit {0}
+
+-- the command tells no events, and gives one reply
 abbrev pub IsQuiet : Command → Type 0
 IsQuiet (New root fields guard style) = ⊥
+IsQuiet (Run count) = ⊥
 IsQuiet Minor = ⊥
 IsQuiet Gc = ⊥
 IsQuiet Major = ⊥
 IsQuiet Finish = ⊥
+IsQuiet Dump = ⊥
+IsQuiet (Peek object) = ⊥
+IsQuiet Exit = ⊥
 IsQuiet _ = Unit {0}
 
 -- the reply to a command that tells no events is lawful, and the view has what the state after it has
@@ -44,6 +56,12 @@ pub record AnswersWith (s : State) (new : View) (command : Command) (events : Li
   pub state : State
   pub represents : Represents new state
   pub effects : Effects s command events (Replied reply ∷ []) state
+
+-- the outputs of the command are lawful, and the view has what the state after them has
+pub record Gives (s : State) (new : View) (command : Command) (outputs : List Output) : Type 0 where
+  pub state : State
+  pub represents : Represents new state
+  pub lawful : Lawful s command outputs state
 
 -- the outputs of the command are lawful, the space stands for the state after them, and IsSo holds of the outputs
 pub record StepsFrom (s : State) (new : SpaceView) (command : Command) (IsSo : List Output → Type 0) : Type 0 where

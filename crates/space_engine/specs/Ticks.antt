@@ -1,15 +1,16 @@
 -- How far the ledger's count rises by a command.
-use Rattle.std.specs.Prelude.{◌≡◌, ◌≢◌, ℕ, ◌+◌, ◌^◌, ◌≤◌, ◌<◌, List, [], ◌∷◌, ◌++◌, map}
+use Rattle.std.specs.Prelude.{◌≡◌, ◌≢◌, ◌⊎◌, ℕ, ◌+◌, ◌^◌, ◌≤◌, ◌<◌, List, [], ◌∷◌, ◌++◌, length, map}
 use Rattle.space_model.specs.declared.command.Command.{Command}
-use Rattle.space_model.specs.declared.command.Command.TheVariants.{New, Load, Minor, Gc, Major, Mark, Finish}
+use Rattle.space_model.specs.declared.command.Command.TheVariants.{New, Load, Minor, Gc, Major, Mark, Finish, Dump, Peek, Exit}
 use Rattle.space_model.specs.declared.event.Event.{Event}
 use Rattle.space_model.specs.declared.phase.Phase.TheVariants.{Marking}
 use Rattle.space_model.specs.declared.reply.Reply.{Reply}
-use Rattle.space_model.specs.declared.reply.Reply.TheVariants.{Scanned, Marked, Refused}
+use Rattle.space_model.specs.declared.reply.Reply.TheVariants.{NoMemory, Scanned, Marked, Dumped, Refused}
 use Rattle.space_model.specs.Completions.{Completes}
 use Rattle.space_model.specs.Counts.{CountIs}
+use Rattle.space_model.specs.DumpLines.{DumpLine}
 use Rattle.space_model.specs.MajorMarking.{EndsMarking}
-use Rattle.space_model.specs.Outputs.{Output, Told, Replied}
+use Rattle.space_model.specs.Outputs.{Output, Told, Listed, Peeked, Replied}
 use Rattle.space_model.specs.Reach.{Reach}
 use Rattle.space_model.specs.State.{State}
 
@@ -49,20 +50,40 @@ pub record IsMarkingTicked (s : State) (before after : ℕ) : Type 0 where
   pub ticked : IsCompletedTicked s scans before after
 
 -- by the command, its events and its reply: in `minor` and `gc` by the scans that the reply tells, after those that complete what is under way; in
--- `major` by the latter alone; in `finish` by the scans that the reply tells; in `new`, which tells events only where it collects, by the scans of
+-- `major` and `exit`, which leaves nothing to scan, by the latter alone; in `finish` by the scans that the reply tells; in `new`, which tells events only where it collects, by the scans of
 -- that collection, and without one not at all
 abbrev pub IsTicked : State → Command → List Event → Reply → ℕ → ℕ → Type 0
 IsTicked s Minor events (Scanned count) before after = IsCompletedTicked s count before after
 IsTicked s Gc events (Scanned count) before after = IsCompletedTicked s count before after
 IsTicked s Major events reply before after = IsCompletedTicked s 0 before after
+IsTicked s Exit events reply before after = IsCompletedTicked s 0 before after
 IsTicked s Finish events (Scanned count) before after = after ≡ before + count
 IsTicked s (New root fields guard style) [] reply before after = after ≡ before
 IsTicked s (New root fields guard style) (event ∷ events) reply before after = IsMarkingTicked s before after
 IsTicked s command events reply before after = IsReplyTicked command reply before after
 
--- the same, by the command and its outputs
-pub record AreTicked (s : State) (command : Command) (outputs : List Output) (before after : ℕ) : Type 0 where
+-- in a dump by the lines, and by one more where there was no memory for the next
+pub record AreDumpTicked (outputs : List Output) (before after : ℕ) : Type 0 where
+  pub lines : List DumpLine
+  pub lacking : ℕ
+  pub outputs_are : ((lacking ≡ 0) × (outputs ≡ map Listed lines ++ Replied (Dumped (length lines)) ∷ []))
+      ⊎ ((lacking ≡ 1) × (outputs ≡ map Listed lines ++ Replied NoMemory ∷ []))
+  pub ticked : after ≡ before + length lines + lacking
+
+-- in `peek` by one, where an object is shown
+abbrev pub ArePeekTicked : List Output → ℕ → ℕ → Type 0
+ArePeekTicked (Peeked address words ∷ []) before after = after ≡ before + 1
+ArePeekTicked _ before after = after ≡ before
+
+-- the outputs are events and one reply, and the count rises as they tell
+pub record AreReplyTicked (s : State) (command : Command) (outputs : List Output) (before after : ℕ) : Type 0 where
   pub events : List Event
   pub reply : Reply
   pub outputs_are : outputs ≡ map Told events ++ Replied reply ∷ []
   pub ticked : IsTicked s command events reply before after
+
+-- by the command and its outputs
+abbrev pub AreTicked : State → Command → List Output → ℕ → ℕ → Type 0
+AreTicked s Dump outputs before after = AreDumpTicked outputs before after
+AreTicked s (Peek object) outputs before after = ArePeekTicked outputs before after
+AreTicked s command outputs before after = AreReplyTicked s command outputs before after

@@ -1,9 +1,10 @@
--- A space as its heap, its roots, its stack, its object ids and its weak maps; and how many commands it was given.
+-- A space as its heap, its roots, its stack, its object ids, its weak maps and its finalizers; and how many commands it was given.
 use Rattle.std.specs.Prelude.{ℕ, Bool, false, List, [], ◌∷◌, ◌++◌, if◌then◌else◌}
 use Rattle.space_heap.specs.HeapView.{HeapView, empty_heap}
 use Rattle.space_heap.specs.Objects.{written}
 use Rattle.space_barrier.specs.Barrier.{is_marking, stored, unprotected}
 use Rattle.space_roots.specs.WordRoots.{with_root_word, without_root}
+use Rattle.space_finals.specs.FinalLists.{FinalLists}
 use Rattle.space_ids.specs.GivenIds.{GivenIds, with_id, purged as purged_ids}
 use Rattle.space_weak.specs.WeakEntries.{Entry, purged as purged_entries}
 
@@ -18,14 +19,32 @@ pub record View : Type 0 where
   pub ids : GivenIds
   -- the entries of weak maps, with the addresses that are kept of their objects
   pub weak : List Entry
+  -- the finalizers that are defined, and those that wait to run
+  pub finals : FinalLists
 
 -- nothing is there yet
 abbrev pub empty_view : ℕ → View
-empty_view limit = record { heap = empty_heap limit; roots = []; stack = []; ids = []; weak = [] }
+empty_view limit = record { heap = empty_heap limit; roots = []; stack = []; ids = []; weak = []; finals = record { finals = []; queue = [] } }
 
 -- the heap is this one; all else stays
 abbrev pub with_heap : View → HeapView → View
 with_heap v heap = record v { heap = heap }
+
+-- the finalizers are these
+abbrev pub with_finals : View → FinalLists → View
+with_finals v finals = record v { finals = finals }
+
+-- these finalizers wait to run
+abbrev pub with_queue : View → List (ℕ × List ℕ) → View
+with_queue v queue = record v { finals = record v.finals { queue = queue } }
+
+-- the heap and the finalizers are these, in which pages were swept
+abbrev pub with_swept : View → HeapView → FinalLists → View
+with_swept v heap finals = record v { heap = heap; finals = finals }
+
+-- no root and no stack word is left
+abbrev pub without_starts : View → View
+without_starts v = record v { roots = []; stack = [] }
 
 -- the root holds the word: it keeps its place, and a new one comes last
 abbrev pub with_root_written : View → List ℕ → ℕ → View
@@ -55,9 +74,9 @@ with_weak v entries = record v { weak = entries }
 abbrev pub with_judged : View → HeapView → View
 with_judged v heap = record v { heap = heap; ids = purged_ids heap v.ids; weak = purged_entries heap v.weak }
 
--- the heap is this one, in which what was under way was completed: in a marking by a verdict
-abbrev pub with_completed : View → HeapView → View
-with_completed v heap = if is_marking v.heap.phase then with_judged v heap else with_heap v heap
+-- the heap and the finalizers are these, in which what was under way was completed: in a marking by a verdict
+abbrev pub with_completed : View → HeapView → FinalLists → View
+with_completed v heap finals = if is_marking v.heap.phase then with_finals (with_judged v heap) finals else with_swept v heap finals
 
 -- a field of the object at this address got the word, by the write barrier's rules
 abbrev pub with_field : View → ℕ → ℕ → ℕ → View

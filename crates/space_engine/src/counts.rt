@@ -23,8 +23,8 @@ pub struct Counts {
     pub no_memory: u64,
 }
 
-// Nothing was counted.
-const NONE: Counts = Counts {
+/// Nothing was counted.
+pub const NONE: Counts = Counts {
     objects: 0,
     gone: 0,
     moves: 0,

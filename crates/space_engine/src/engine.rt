@@ -4,13 +4,17 @@ ghost use Rattle.space_io.specs.Causes.{HasCause};
 ghost use Rattle.space_model.specs.Given.{IsGiven};
 ghost use Rattle.space_model.specs.State.{opening};
 ghost use Rattle.space_engine.specs.Ticks.{RisesByFewer, most_ticks};
-ghost use Rattle.space_engine.specs.Answered.{IsAnswered, IsCutOff};
+ghost use Rattle.space_engine.specs.Answered.{IsAnswered, IsCutOff, IsWritten, IsWrittenInPart};
 ghost use Rattle.space_engine.specs.Stands.{Holds};
+ghost use Rattle.space_engine.specs.Steps.{IsPlain};
 ghost use Rattle.space_engine.specs.Turns.{CanAnswer, IsOneTurn};
 ghost use Rattle.space_engine.specs.Views.{empty_view};
 
 mod collection_commands;
 mod completion;
+mod dump_commands;
+mod exit_command;
+mod final_commands;
 mod id_commands;
 mod marking_commands;
 mod new_command;
@@ -22,11 +26,14 @@ mod stack_commands;
 mod sweep_commands;
 mod weak_commands;
 
+use crate::counts::{Counts, counts_of_answer};
+use space_finals::Finals;
 use space_heap::Heap;
 use space_ids::Ids;
 use space_io::{Sink, WriteFault};
 use space_model::{Command, Kind, Ledger, Phase, Reply, Steps};
 use space_roots::{Roots, Stack};
+use space_trace::write_reply;
 use space_weak::WeakMaps;
 use std::alloc::{AllocError as NoMemory, Global};
 use std::marker::Model;
@@ -47,7 +54,7 @@ fn silent(reply: Reply) -> Answer
     Answer { reply, gone: 0 }
 }
 
-/// The objects in their slots, what roots and the stack hold, object ids and weak maps.
+/// The objects in their slots, what roots and the stack hold, object ids, weak maps and finalizers.
 #[derive(Drop)]
 pub struct Engine {
     heap: Heap,
@@ -55,6 +62,9 @@ pub struct Engine {
     stack: Stack,
     ids: Ids,
     weak: WeakMaps,
+    finals: Finals,
+    // For the lines of dumps.
+    alloc: Global,
 }
 
 impl Model for Engine {
@@ -81,6 +91,8 @@ impl Engine {
             stack: Stack::new(alloc),
             ids: Ids::new(alloc),
             weak: WeakMaps::new(alloc),
+            finals: Finals::new(alloc),
+            alloc,
         })
     }
 
@@ -91,14 +103,15 @@ impl Engine {
         self.heap.phase()
     }
 
-    /// Answers a command: its events are written, and its reply is the answer. An `Err` comes after a failed write; what
-    /// the command does is done then too.
-    pub fn answer<K: Sink, L: Ledger>(
+    // Answers a command that neither runs finalizers nor shows objects: its events are written, and its reply is the answer. An
+    // `Err` comes after a failed write; what the command does is done then too.
+    fn answer<K: Sink, L: Ledger>(
         &mut self,
         command: &Command,
         sink: &mut K,
         steps: &mut Steps<L>,
     ) -> Result<Answer, WriteFault>
+        requires plain { IsPlain command.now }
         requires given { IsGiven command.now }
         requires able { CanAnswer self.old.heap }
         requires steps { steps.old < 2 ^ 61 }
@@ -120,6 +133,53 @@ impl Engine {
             Command::Major => self.major(sink, steps),
             Command::Finish => self.finish(sink, steps),
             _ => Ok(silent(self.reply(command, steps))),
+        }
+    }
+    // Answers such a command, and writes its reply too.
+    fn answer_and_reply<K: Sink, L: Ledger>(
+        &mut self,
+        command: &Command,
+        sink: &mut K,
+        steps: &mut Steps<L>,
+    ) -> Result<Counts, WriteFault>
+        requires plain { IsPlain command.now }
+        requires given { IsGiven command.now }
+        requires able { CanAnswer self.old.heap }
+        requires steps { steps.old < 2 ^ 61 }
+        ensures done { IfOk result (λ counts. IsWritten self.old self.new command.now counts (K.written sink.old) (K.written sink.new) steps.old steps.new) }
+        ensures fault { OnErr result (IsWrittenInPart self.old self.new command.now (K.written sink.old) (K.written sink.new)) }
+        ensures cause { HasCause (K.faults sink.old) (K.faults sink.new) result }
+        ensures turn { IsOneTurn self.old.heap self.new.heap }
+        ensures steps { RisesByFewer most_ticks steps.old steps.new }
+    {
+        let answer = self.answer(command, sink, steps)?;
+        write_reply(&answer.reply, sink)?;
+        Ok(counts_of_answer(&answer.reply, answer.gone))
+    }
+
+    /// Carries out a command: its outputs are written, and the answer counts them. An `Err` comes after a failed write; what
+    /// the command does is done then too.
+    pub fn step<K: Sink, L: Ledger>(
+        &mut self,
+        command: &Command,
+        sink: &mut K,
+        steps: &mut Steps<L>,
+    ) -> Result<Counts, WriteFault>
+        requires given { IsGiven command.now }
+        requires able { CanAnswer self.old.heap }
+        requires steps { steps.old < 2 ^ 61 }
+        ensures done { IfOk result (λ counts. IsWritten self.old self.new command.now counts (K.written sink.old) (K.written sink.new) steps.old steps.new) }
+        ensures fault { OnErr result (IsWrittenInPart self.old self.new command.now (K.written sink.old) (K.written sink.new)) }
+        ensures cause { HasCause (K.faults sink.old) (K.faults sink.new) result }
+        ensures turn { IsOneTurn self.old.heap self.new.heap }
+        ensures steps { RisesByFewer most_ticks steps.old steps.new }
+    {
+        match command {
+            Command::Run { count } => self.run(*count, sink),
+            Command::Dump => self.dump(sink, steps),
+            Command::Peek { object } => self.peek(object, sink, steps),
+            Command::Exit => self.exit(sink, steps),
+            _ => self.answer_and_reply(command, sink, steps),
         }
     }
 }

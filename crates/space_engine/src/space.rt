@@ -10,11 +10,10 @@ ghost use Rattle.space_engine.specs.Stands.{Stands};
 ghost use Rattle.space_engine.specs.Steps.{AreDone, LawfulSteps};
 ghost use Rattle.space_engine.specs.Views.{empty_space};
 
-use crate::counts::{Counts, counts_of_answer};
+use crate::counts::Counts;
 use crate::engine::Engine;
 use space_io::Sink;
 use space_model::{Command, Ledger, Phase, Steps};
-use space_trace::write_reply;
 use std::alloc::{AllocError as NoMemory, Global};
 use std::marker::Model;
 
@@ -76,7 +75,7 @@ impl Space {
         self.turns
     }
 
-    /// Answers a command: writes its events, and then its reply, a line each. The answer counts them.
+    /// Answers a command: writes its events, the lines of the objects that it shows, and its reply. The answer counts them.
     ///
     /// An `Err` comes only after a failed write. The command is done then too, a prefix of its lines was written, and the space
     /// is spent: it takes no further command. The ledger counts each reading of an object's fields.
@@ -101,15 +100,8 @@ impl Space {
         ensures steps { RisesByFewer most_ticks steps.old steps.new }
     {
         self.turns += 1;
-        let answer = match self.engine.answer(command, sink, steps) {
-            Ok(answer) => answer,
-            Err(_) => {
-                self.is_spent = true;
-                return Err(StepFault::WriteFault);
-            }
-        };
-        match write_reply(&answer.reply, sink) {
-            Ok(()) => Ok(counts_of_answer(&answer.reply, answer.gone)),
+        match self.engine.step(command, sink, steps) {
+            Ok(counts) => Ok(counts),
             Err(_) => {
                 self.is_spent = true;
                 Err(StepFault::WriteFault)

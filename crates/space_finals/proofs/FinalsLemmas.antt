@@ -1,7 +1,7 @@
--- Labels of names in lists of pairs, and what each call leaves of the stored lists.
-use Rattle.std.proofs.Common.{◌≡◌, ℕ, zero, suc, ◌+◌, ◌<◌, ◌≤◌, nat_eq, Bool, true, false, cond, if◌then◌else◌, List, [], ◌∷◌, ◌++◌, length, drop, get_or}
+-- What each call leaves of the stored lists.
+use Rattle.std.proofs.Common.{◌≡◌, ◌≢◌, ℕ, zero, suc, ◌+◌, ◌<◌, ◌≤◌, nat_eq, Bool, true, false, cond, if◌then◌else◌, List, [], ◌∷◌, ◌++◌, length, drop, get_or}
 use Rattle.std.proofs.Common.{append_assoc, append-nil, add-one, length-append, refl, sym, ap, ◌∙◌, Option, None, Some, ⊎_elim, arith}
-use Rattle.std.proofs.lemmas.Bool.{cases_Bool, eqb-true}
+use Rattle.std.proofs.lemmas.Bool.{cases_Bool, eqb-true, eq-eqb}
 use Rattle.std.proofs.lemmas.Bool.Decides.{nat_tests}
 use Rattle.std.proofs.lemmas.Cmp.{nat_eq_equiv}
 use Rattle.std.proofs.lemmas.List.{drop-append-le, length-map}
@@ -10,31 +10,10 @@ use Rattle.std.proofs.Math.Seq.{drop-append_seam}
 use Rattle.std.proofs.lemmas.Map.Keys.{IsDistinct-head, IsDistinct-tail}
 use Rattle.std.specs.List.{IsDistinct, AllByRecursion}
 use Rattle.std.specs.Map.{lookup, keys_of, set_value}
-use Rattle.space_finals.specs.FinalLists.{labels_of, pairs_of, without_name, HaveSameLabels}
+use Rattle.space_model.specs.Finalizers.{labels_of, pairs_of, without_name}
+use Rattle.space_model.proofs.FinalNames.{labels_of-append, labels_of-pairs_of_same, labels_of-pairs_of_other, labels_of-without_name}
+use Rattle.space_finals.specs.FinalLists.{HaveSameLabels}
 use Rattle.space_finals.specs.StoredFinals.{pairs_in, HaveLabels, AreToRun, HasLabel, labels_found, AreStored}
-
--- the labels of a name in two lists, one after the other
-pub labels_of-append : (xs ys : List (ℕ × List ℕ)) (n : ℕ) → labels_of (xs ++ ys) n ≡ labels_of xs n ++ labels_of ys n
-labels_of-append [] ys n = refl
-labels_of-append (x ∷ xs) ys n = ⊎_elim
-    (λ t. rw t (ap (λ rest. x.1 ∷ rest) (labels_of-append xs ys n)))
-    (λ f. rw f (labels_of-append xs ys n))
-    (cases_Bool (nat_eq n x.0))
-
--- the pairs of a name have its labels
-pub labels_of-pairs_of_same : (m : ℕ) (labels : List (List ℕ)) (n : ℕ) → nat_eq n m ≡ true → labels_of (pairs_of m labels) n ≡ labels
-labels_of-pairs_of_same m [] n same = refl
-labels_of-pairs_of_same m (label ∷ labels) n same = rw same (ap (λ rest. label ∷ rest) (labels_of-pairs_of_same m labels n same))
-
--- and none of another name
-pub labels_of-pairs_of_other : (m : ℕ) (labels : List (List ℕ)) (n : ℕ) → nat_eq n m ≡ false → labels_of (pairs_of m labels) n ≡ []
-labels_of-pairs_of_other m [] n other = refl
-labels_of-pairs_of_other m (label ∷ labels) n other = rw other (labels_of-pairs_of_other m labels n other)
-
--- without a name, that name has no label, and each other has its own
-pub labels_of-without_name : (xs : List (ℕ × List ℕ)) (name n : ℕ) → labels_of (without_name xs name) n ≡ (if nat_eq name n then [] else labels_of xs n)
-labels_of-without_name [] name n = ⊎_elim (λ t. rw t refl) (λ f. rw f refl) (cases_Bool (nat_eq name n))
-labels_of-without_name (x ∷ xs) name n = grind (arith, nat_tests, labels_of-without_name xs name n)
 
 -- the pair at a place among those of a name
 first_from : (name : ℕ) (labels : List (List ℕ)) (rest : List (ℕ × List ℕ)) (ran : ℕ) (label : List ℕ) → ran < length labels → label ≡ get_or labels ran label
@@ -189,3 +168,78 @@ HaveSameLabels-push xs ys pair h n =
 pub HaveSameLabels-without_name : (xs ys : List (ℕ × List ℕ)) (name : ℕ) → HaveSameLabels xs ys → HaveSameLabels (without_name xs name) (without_name ys name)
 HaveSameLabels-without_name xs ys name h n =
     labels_of-without_name xs name n ∙ ap (λ labels. if nat_eq name n then [] else labels) (h n) ∙ sym (labels_of-without_name ys name n)
+
+-- the pairs of a name, and the others
+pub length-without_name : (pairs : List (ℕ × List ℕ)) (name : ℕ) → length (labels_of pairs name) + length (without_name pairs name) ≡ length pairs
+length-without_name [] name = refl
+length-without_name (pair ∷ pairs) name =
+    let rest = length-without_name pairs name in
+    ⊎_elim (λ t. rw t (omega arith)) (λ f. rw f (omega arith)) (cases_Bool (nat_eq name pair.0))
+
+-- where each name has the same labels there are as many pairs
+pub same_length : (xs ys : List (ℕ × List ℕ)) → HaveSameLabels xs ys → length xs ≡ length ys
+same_length xs ys h = by_length (length xs) xs ys (omega arith) h
+  where
+    none : (pair : ℕ × List ℕ) (ys : List (ℕ × List ℕ)) → labels_of (pair ∷ ys) pair.0 ≡ [] → ⊥
+    none pair ys e =
+        let same = eq-eqb pair.0 pair.0 refl in
+        let some : pair.1 ∷ labels_of ys pair.0 ≡ [] = rw same at e in
+        cc
+
+    some_go : (pair : ℕ × List ℕ) (xs : List (ℕ × List ℕ)) → length (without_name (pair ∷ xs) pair.0) ≤ length xs
+    some_go pair xs =
+        let same = eq-eqb pair.0 pair.0 refl in
+        let rest = length-without_name xs pair.0 in
+        rw same (omega arith)
+
+    by_length : (most : ℕ) (xs ys : List (ℕ × List ℕ)) → length xs ≤ most → HaveSameLabels xs ys → length xs ≡ length ys
+    by_length most [] [] few h = refl
+    by_length most [] (pair ∷ ys) few h = absurd (none pair ys (sym (h pair.0)))
+    by_length zero (pair ∷ xs) ys few h = absurd (omega arith)
+    by_length (suc most) (pair ∷ xs) ys few h =
+        let go = some_go pair xs in
+        let others = by_length most (without_name (pair ∷ xs) pair.0) (without_name ys pair.0) (omega arith)
+        (HaveSameLabels-without_name (pair ∷ xs) ys pair.0 h) in
+        let its = ap length (h pair.0) in
+        let first = length-without_name (pair ∷ xs) pair.0 in
+        let second = length-without_name ys pair.0 in
+        omega arith
+
+-- one more pair makes it longer by one
+pub length-pushed : (now before : List (ℕ × List ℕ)) (pair : ℕ × List ℕ) → HaveSameLabels now (before ++ pair ∷ []) → length now ≡ length before + 1
+length-pushed now before pair h = same_length now (before ++ pair ∷ []) h ∙ length-append before (pair ∷ [])
+
+-- and without a name it is shorter by its labels
+pub length-removed : (now before : List (ℕ × List ℕ)) (name : ℕ) → HaveSameLabels now (without_name before name)
+    → length (labels_of before name) + length now ≡ length before
+length-removed now before name h = ap (λ n. length (labels_of before name) + n) (same_length now (without_name before name) h) ∙ length-without_name before name
+
+module _ {X : Type 0} (labels : X → List (List ℕ)) where
+  -- a name that is taken out takes as many pairs as it had labels
+  pub length-taken : (old new : List (ℕ × X)) (name : ℕ) (x : X) → IsDistinct nat_eq (keys_of old) → IsDistinct nat_eq (keys_of new)
+      → ((q : ℕ) → lookup (nat_eq q) new ≡ cond (nat_eq name q) None (lookup (nat_eq q) old)) → lookup (nat_eq name) old ≡ Some x
+      → length (labels x) + length (pairs_in labels new) ≡ length (pairs_in labels old)
+  length-taken old new name x d e u found =
+      let its : labels_of (pairs_in labels old) name ≡ labels x = labels_of-pairs_in labels old name d ∙ ap (labels_found labels) found in
+      ap (λ ls. length ls + length (pairs_in labels new)) (sym its)
+      ∙ length-removed (pairs_in labels new) (pairs_in labels old) name (HaveSameLabels-removed labels old new name d e u)
+
+  -- so many pairs are still to run, with one name more in the queue
+  pub length-queued : (ran : ℕ) (entries : List (ℕ × X)) (name : ℕ) (x : X) → AreToRun labels ran entries
+      → length (drop ran (pairs_in labels (entries ++ (name, x) ∷ []))) ≡ length (drop ran (pairs_in labels entries)) + length (labels x)
+  length-queued ran entries name x h =
+      ap length (to_run-push labels ran entries name x h)
+      ∙ length-append (drop ran (pairs_in labels entries)) (pairs_of name (labels x))
+      ∙ ap (λ n. length (drop ran (pairs_in labels entries)) + n) (length-map {B = ℕ × List ℕ} (labels x) (λ label. (name, label)))
+
+  -- where a name has its list of labels, there is a pair
+  pub some_pair : (entries : List (ℕ × X)) → ((name : ℕ) → HasLabel labels (lookup (nat_eq name) entries)) → 0 < length entries
+      → pairs_in labels entries ≢ []
+  some_pair [] h some none = absurd (omega arith)
+  some_pair (entry ∷ entries) h some none =
+      let same = eq-eqb entry.0 entry.0 refl in
+      let labelled : 0 < length (labels entry.1) = rw same at (h entry.0) in
+      let sizes = length-append (pairs_of entry.0 (labels entry.1)) (pairs_in labels entries) in
+      let mapped = length-map {B = ℕ × List ℕ} (labels entry.1) (λ label. (entry.0, label)) in
+      let nothing : length (pairs_of entry.0 (labels entry.1) ++ pairs_in labels entries) ≡ 0 = ap length none in
+      absurd (omega arith)

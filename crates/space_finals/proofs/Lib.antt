@@ -1,1 +1,2 @@
 pub mod FinalsLemmas
+pub mod ModelFinals

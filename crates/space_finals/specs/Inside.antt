@@ -1,5 +1,5 @@
 -- What the fields of `Finals` stand for, and what holds of them.
-use Rattle.std.specs.Prelude.{drop}
+use Rattle.std.specs.Prelude.{◌≡◌, ◌+◌, length, drop}
 use Rattle.std.specs.VecDeque.{deque_len, deque_capacity}
 use Rattle.space_finals.specs.declared.finals.Finals.TheInside.{Inside}
 use Rattle.space_finals.specs.FinalLists.{FinalLists}
@@ -13,5 +13,6 @@ view_from f = record {
 }
 
 -- what holds of all fields together
-abbrev pub AreFinals : Inside → Type 0
-AreFinals f = AreStored (λ labels. labels.items) f.defined.entries f.queue.items f.ran (deque_len f.queue) (deque_capacity f.queue)
+pub record AreFinals (f : Inside) : Type 0 where
+  pub stored : AreStored (λ labels. labels.items) f.defined.entries f.queue.items f.ran (deque_len f.queue) (deque_capacity f.queue)
+  pub counted : f.count ≡ length (view_from f).finals + length (view_from f).queue

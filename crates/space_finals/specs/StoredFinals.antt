@@ -2,7 +2,7 @@
 use Rattle.std.specs.Prelude.{⊤, ◌≡◌, ℕ, ◌+◌, ◌<◌, ◌≤◌, nat_eq, List, [], ◌∷◌, ◌++◌, length, Option, None, Some}
 use Rattle.std.specs.List.{IsDistinct}
 use Rattle.std.specs.Map.{lookup, keys_of}
-use Rattle.space_finals.specs.FinalLists.{pairs_of}
+use Rattle.space_model.specs.Finalizers.{pairs_of}
 
 module _ {X : Type 0} (labels : X → List (List ℕ)) where
   -- the pairs of all names, one name after another

@@ -1,6 +1,7 @@
 // Finalizers: a list of labels for each name, and the queue of such lists.
-ghost use Rattle.std.specs.Prelude.{◌≡◌, ◌++◌, ◌∷◌, [], length, MatchOption, IfNone, OnOk, OnErr};
-ghost use Rattle.space_finals.specs.FinalLists.{labels_of, pairs_of, without_name, HaveSameLabels};
+ghost use Rattle.std.specs.Prelude.{◌≡◌, ◌≢◌, ◌+◌, ◌++◌, ◌∷◌, [], length, true, false, MatchOption, IfNone, OnOk, OnErr};
+ghost use Rattle.space_finals.specs.FinalLists.{HaveSameLabels, QueuesName};
+ghost use Rattle.space_model.specs.Finalizers.{labels_of, pairs_of, without_name};
 
 use indexmap::IndexMap;
 use space_model::Ident;
@@ -26,6 +27,8 @@ pub struct Finals {
     queue: VecDeque<(u64, Vec<Ident>)>,
     // How many labels of the oldest name in the queue ran.
     ran: usize,
+    // How many finalizers are defined or queued.
+    count: u64,
     alloc: Global,
 }
 
@@ -51,6 +54,7 @@ impl Finals {
             defined: IndexMap::new(alloc),
             queue: VecDeque::new(alloc),
             ran: 0,
+            count: 0,
             alloc,
         }
     }
@@ -62,13 +66,19 @@ impl Finals {
         ensures queue { self.new.queue ≡ self.old.queue }
         ensures err { OnErr result (self.new ≡ self.old) }
     {
+        // More than 2^64 - 1 finalizers have no room in memory.
+        if self.count == u64::MAX {
+            return Err(NoMemory);
+        }
         if let Some(labels) = self.defined.get_mut(&name) {
             labels.push(label)?;
+            self.count += 1;
             return Ok(());
         }
         self.queue.reserve(self.defined.len() + 1)?;
         let labels = Vec::from_slice(self.alloc, &[label])?;
         self.defined.insert(name, labels)?;
+        self.count += 1;
         Ok(())
     }
 
@@ -81,13 +91,14 @@ impl Finals {
         let Some(labels) = self.defined.swap_remove(&name) else {
             return 0;
         };
-        labels.len() as u64
+        let count = labels.len() as u64;
+        self.count -= count;
+        count
     }
 
     /// Moves the finalizers of the name to the end of the queue, in order of definition.
     pub fn queue(&mut self, name: u64)
-        ensures finals { HaveSameLabels self.new.finals (without_name self.old.finals name) }
-        ensures queue { self.new.queue ≡ self.old.queue ++ pairs_of name (labels_of self.old.finals name) }
+        ensures { QueuesName self.old name self.new }
     {
         let Some(labels) = self.defined.swap_remove(&name) else {
             return;
@@ -95,6 +106,21 @@ impl Finals {
         let Ok(()) = self.queue.push_back((name, labels)) else {
             unreachable!();
         };
+    }
+
+    /// How many finalizers are defined or queued.
+    pub fn len(&self) -> u64
+        ensures { result ≡ length self.now.finals + length self.now.queue }
+    {
+        self.count
+    }
+
+    /// Whether a finalizer is defined that isn't queued yet.
+    pub fn any_defined(&self) -> bool
+        ensures some { result ≡ true → self.now.finals ≢ [] }
+        ensures none { result ≡ false → self.now.finals ≡ [] }
+    {
+        self.defined.len() > 0
     }
 
     /// Takes the oldest finalizer out of the queue, or gives `None` where none is queued.
@@ -109,6 +135,7 @@ impl Finals {
             label: labels[self.ran],
         };
         self.ran += 1;
+        self.count -= 1;
         if self.ran == labels.len() {
             self.queue.pop_front();
             self.ran = 0;
@@ -156,6 +183,8 @@ mod tests {
             assert!(rt; finals.define(name, label) == Ok(()));
         }
 
+        assert!(rt; finals.len() == 5 && finals.any_defined());
+
         // A name, and how many of its finalizers are taken away.
         for (name, count) in [(3, 1), (3, 0), (4, 0)] {
             assert!(rt; finals.undefine(name) == count, "of {name}");
@@ -165,6 +194,7 @@ mod tests {
         finals.queue(3);
         finals.queue(2);
         finals.queue(1);
+        assert!(rt; finals.len() == 4 && !finals.any_defined());
         assert!(rt; finals.undefine(1) == 0 && finals.define(2, one) == Ok(()));
         finals.queue(1);
         assert!(rt; run(&mut finals, &[(2, three), (1, one), (1, two), (1, one)]));

@@ -92,6 +92,14 @@ IsFoundOn sought v page from found = IsNextOn (is_sought sought v) page from fou
 abbrev pub IsFoundGone : HeapView → ℕ → Found → Type 0
 IsFoundGone v from found = IsNextGone v from found.address × (found.name ≡ (object_of v found.address).name)
 
+-- no gone object stands on the page from this address on
+abbrev pub HasNoGoneOn : HeapView → ℕ → ℕ → Type 0
+HasNoGoneOn v page from = HasNoneOn (is_gone v) page from
+
+-- the gone object with the least address on the page from this one on, and its name
+abbrev pub IsFoundGoneOn : HeapView → ℕ → ℕ → Found → Type 0
+IsFoundGoneOn v page from found = IsNextOn (is_gone v) page from found.address × (found.name ≡ (object_of v found.address).name)
+
 -- of the slots of the page those from this one on start at the address or later
 abbrev pub StartsFrom : HeapView → ℕ → ℕ → ℕ → Type 0
 StartsFrom v page slot from = (pool k : ℕ) → pool_at v page ≡ Some pool → k < page_slots pool → (slot ≤ k) ↔ (from ≤ slot_address page pool k)

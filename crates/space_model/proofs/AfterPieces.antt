@@ -5,7 +5,7 @@ use Rattle.space_model.specs.declared.phase.Phase.TheVariants.{Marking}
 use Rattle.space_model.specs.Graph.{Item}
 use Rattle.space_model.specs.Moments.{noted}
 use Rattle.space_model.specs.Sound.{Sound, SoundLayout, SoundCorpses, SoundSweep, SoundUsed, SoundResting, SoundCursor, SoundLeft, SoundStale, SoundNames, SoundKept, SoundMoments, AreSoundItems, AreSoundRoots}
-use Rattle.space_model.specs.State.{State, Heap, Collector}
+use Rattle.space_model.specs.State.{State, Heap, Collector, Tables}
 use Rattle.space_model.proofs.MarkingKept.{IsMarkingSound, SoundMarking-noted}
 use Rattle.space_model.proofs.NotedLaws.{SoundMoments-noted}
 use Rattle.space_model.proofs.TablesKept.{SoundTables}
@@ -29,7 +29,7 @@ pub record SoundParts (s : State) : Type 0 where
   pub names : SoundNames s.graph s.roots s.heap.place
   pub items : AreSoundItems s.graph
   pub roots : AreSoundRoots s.roots
-  pub tables : SoundTables s.graph s.heap.place s.tables
+  pub tables : SoundTables s.graph s.heap.place s.heap.corpses s.tables
   pub once : IsDistinct nat_eq s.history.seen
   pub marking : s.collector.phase ≡ Marking → IsMarkingSound s
 
@@ -47,12 +47,12 @@ heap_of s h = record {
   outlived = h.outlived;
 }
 
-pub tables_of : (s : State) → Sound s → SoundTables s.graph s.heap.place s.tables
-tables_of s h = record { ids = h.ids; weak = h.weak }
+pub tables_of : (s : State) → Sound s → SoundTables s.graph s.heap.place s.heap.corpses s.tables
+tables_of s h = record { ids = h.ids; weak = h.weak; finals = h.finals; queue = h.queue }
 
 -- a state is sound where its parts are
 pub sound_of : (s : State) → SoundHeap s.graph s.heap s.collector → SoundNames s.graph s.roots s.heap.place → AreSoundItems s.graph →
-    AreSoundRoots s.roots → SoundTables s.graph s.heap.place s.tables → SoundMoments s → (s.collector.phase ≡ Marking → IsMarkingSound s) → Sound s
+    AreSoundRoots s.roots → SoundTables s.graph s.heap.place s.heap.corpses s.tables → SoundMoments s → (s.collector.phase ≡ Marking → IsMarkingSound s) → Sound s
 sound_of s heap names items roots tables moments marking = record {
   layout = heap.layout;
   corpses = heap.corpses;
@@ -67,6 +67,8 @@ sound_of s heap names items roots tables moments marking = record {
   roots = roots;
   ids = tables.ids;
   weak = tables.weak;
+  finals = tables.finals;
+  queue = tables.queue;
   kept = heap.kept;
   outlived = heap.outlived;
   moments = moments;
@@ -76,3 +78,13 @@ sound_of s heap names items roots tables moments marking = record {
 pub after_piece : (u t : State) → t ≡ noted u → SoundParts u → Sound t
 after_piece u t e h = subst Sound (sym e)
     (sound_of (noted u) h.heap h.names h.items h.roots h.tables (SoundMoments-noted u h.once) (λ e. SoundMarking-noted u h.names (h.marking e)))
+
+-- the state with these tables
+abbrev pub tables_replaced : State → Tables → State
+tables_replaced s tables = record s { tables = tables }
+
+pub Sound-tables_replaced : (s t : State) (tables : Tables) → SoundTables s.graph s.heap.place s.heap.corpses tables → t ≡ tables_replaced s tables →
+    Sound s → Sound t
+Sound-tables_replaced s t tables sound e h = subst Sound (sym e) (sound_of (tables_replaced s tables) (heap_of s h) h.names h.items h.roots sound
+    (record { seen = h.moments.seen; once = h.moments.once; mixed = h.moments.mixed })
+    h.marking)

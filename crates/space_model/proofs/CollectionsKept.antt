@@ -19,6 +19,7 @@ use Rattle.space_model.specs.Verdicts.{IsVerdict}
 use Rattle.space_model.proofs.AfterPieces.{SoundHeap, heap_of, tables_of, sound_of, after_piece}
 use Rattle.space_model.proofs.AgeLaws.{aged-length}
 use Rattle.space_model.proofs.CorpsesKept.{placed_swept, SoundCorpses-took, SoundCorpses-swept}
+use Rattle.space_model.proofs.FinalsKept.{SoundFinals-took, SoundQueue-took, SoundFinals-swept, SoundQueue-swept}
 use Rattle.space_model.proofs.KeptNames.{SoundKept-verdict}
 use Rattle.space_model.proofs.LeftKept.{SoundLeft-none, SoundStale-none}
 use Rattle.space_model.proofs.MarkingKept.{sweeps_mark_none, SoundMarking-started}
@@ -79,7 +80,12 @@ Sound-took s t kind taken a b v e h = after_piece (took s kind taken) t e (recor
   names = SoundNames-took s kind taken v h.names;
   items = h.items;
   roots = h.roots;
-  tables = record { ids = h.ids; weak = AreSoundEntries-left s.heap.place taken s.tables.weak h.weak };
+  tables = record {
+    ids = h.ids;
+    weak = AreSoundEntries-left s.heap.place taken s.tables.weak h.weak;
+    finals = SoundFinals-took s.heap.place s.heap.corpses taken s.tables.finals h.finals;
+    queue = SoundQueue-took s.heap.place s.heap.corpses taken s.graph s.tables.queue v.present h.queue;
+  };
   once = h.moments.once;
   marking = λ e. absurd (sweeps_mark_none (pool_pages s.heap.pages) e);
 })
@@ -116,7 +122,13 @@ Sound-swept s t freed p h =
       names = h.names;
       items = h.items;
       roots = h.roots;
-      tables = tables_of s h;
+      tables = record {
+        ids = h.ids;
+        weak = h.weak;
+        finals = SoundFinals-swept s.heap.place s.heap.corpses freed s.tables.finals h.finals;
+        queue = SoundQueue-swept s.heap.place s.heap.corpses freed s.graph s.heap.pages s.heap.unswept p.page s.tables.finals s.tables.queue h.corpses
+            (λ n m. (p.corpses.are n).0 m) h.queue;
+      };
       once = h.moments.once;
       marking = λ e. absurd (sweeps_mark_none p.others e);
     })

@@ -1,14 +1,14 @@
 -- What work of the collector leaves: what it took is gone and was told, and all else is as it was.
-use Rattle.std.proofs.Common.{◌≡◌, ℕ, zero, suc, cond, ◌||◌, Bool, true, false, List, [], ◌++◌, length, map, nat_eq, refl, sym, ap, ◌∙◌, subst, ⊎_elim, inl, inr, Option, None, Some}
-use Rattle.std.specs.Prelude.{is_some, ◌↔◌}
+use Rattle.std.proofs.Common.{◌≡◌, ℕ, zero, suc, true, false, List, [], ◌++◌, length, map, nat_eq, refl, sym, ap, ◌∙◌, subst, ⊎_elim, inl, inr, Some}
+use Rattle.std.specs.Prelude.{◌↔◌}
 use Rattle.std.specs.List.{IsDistinct}
 use Rattle.std.specs.Set.{is_member}
 use Rattle.std.specs.FinMap.{get}
 use Rattle.std.proofs.lemmas.Bool.{false_from_ne_true, false≢true}
-use Rattle.std.proofs.lemmas.List.{map-append}
-use Rattle.std.proofs.lemmas.List.Folds.{list_any-append}
+use Rattle.std.proofs.lemmas.List.{append-nil}
 use Rattle.space_model.specs.declared.event.Event.{Event}
 use Rattle.space_model.specs.declared.event.Kind.{Kind}
+use Rattle.space_model.specs.Finalizers.{labels_of}
 use Rattle.space_model.specs.Graph.{IsChild}
 use Rattle.space_model.specs.Maps.{without}
 use Rattle.space_model.specs.Markings.{StartMark, GivesVerdict}
@@ -18,12 +18,14 @@ use Rattle.space_model.specs.State.{State, Tables, is_present}
 use Rattle.space_model.specs.Sweeps.{Sweep1, Sweeps}
 use Rattle.space_model.specs.ToldInOrder.{AreToldInOrder}
 use Rattle.space_model.specs.WeakMaps.{entries_left}
-use Rattle.space_model.proofs.EntryLaws.{all_left, left_twice}
-use Rattle.space_model.proofs.MapLaws.{get-without, held_without, left-without}
+use Rattle.space_model.proofs.EntryLaws.{all_left}
+use Rattle.space_model.proofs.MapLaws.{get-without, held_without}
 use Rattle.space_model.proofs.Members.{member_cases}
 use Rattle.space_model.proofs.Reaching.{IsReached-start, IsReached-mono}
 use Rattle.space_model.proofs.PageLaws.{length-spared}
-use Rattle.space_model.proofs.ToldNames.{gone_among, gone_among-append, gone_verdict_events, IsDistinct-rising, IsDistinct-append, verdict_in_order, AreToldInOrder-append, AreToldInOrder-same, gone_in-told}
+use Rattle.space_model.proofs.Queueing.{ran_among, ran_verdict_events, Queues, queues_none, queues_swept_page}
+use Rattle.space_model.proofs.Taking.{Takes, not_taken, takes_then}
+use Rattle.space_model.proofs.ToldNames.{gone_among, gone_verdict_events, IsDistinct-rising, verdict_in_order}
 
 -- the names that were taken were present and not reached, and are gone, and entries of weak maps went with them; each other name stands where it
 -- stood. They were told in order
@@ -42,12 +44,31 @@ pub record Leaves (s : State) (events : List Event) (t : State) : Type 0 where
   pub page_count : length t.heap.pages ≡ length s.heap.pages
   pub ids : t.tables.ids ≡ s.tables.ids
   pub weak : t.tables.weak ≡ entries_left taken s.tables.weak
+  pub silent : ran_among events ≡ []
+  pub queues : Queues s t
 
--- where nothing is taken
-pub leaves_all : (s t : State) → t.graph ≡ s.graph → t.roots ≡ s.roots → t.stack ≡ s.stack → t.heap.place ≡ s.heap.place → t.heap.limit ≡ s.heap.limit →
-    length t.heap.pages ≡ length s.heap.pages → t.tables ≡ s.tables → Leaves s [] t
+-- what was taken, whether or not it was reached
+pub takes_of : (s t : State) (events : List Event) (h : Leaves s events t) → Takes s events h.taken t
+takes_of s t events h = record {
+  told = h.told;
+  present = h.present;
+  order = h.order;
+  once = h.once;
+  place = h.place;
+  graph = h.graph;
+  limit = h.limit;
+  page_count = h.page_count;
+  ids = h.ids;
+  weak = h.weak;
+  silent = h.silent;
+  queues = h.queues;
+}
+
+-- where nothing is taken, and maybe finalizers are queued
+leaves_queued : (s t : State) → t.graph ≡ s.graph → t.roots ≡ s.roots → t.stack ≡ s.stack → t.heap.place ≡ s.heap.place → t.heap.limit ≡ s.heap.limit →
+    length t.heap.pages ≡ length s.heap.pages → t.tables.ids ≡ s.tables.ids → t.tables.weak ≡ s.tables.weak → Queues s t → Leaves s [] t
 unfolding IsDistinct
-leaves_all s t graph roots stack place limit page_count tables = record {
+leaves_queued s t graph roots stack place limit page_count ids weak queues = record {
   taken = [];
   told = refl;
   present = λ n m. absurd (false≢true m);
@@ -60,9 +81,18 @@ leaves_all s t graph roots stack place limit page_count tables = record {
   stack = stack;
   limit = limit;
   page_count = page_count;
-  ids = ap (λ (tables : Tables). tables.ids) tables;
-  weak = ap (λ (tables : Tables). tables.weak) tables ∙ sym (all_left s.tables.weak);
+  ids = ids;
+  weak = weak ∙ sym (all_left s.tables.weak);
+  silent = refl;
+  queues = queues;
 }
+
+-- where the tables stay too
+pub leaves_all : (s t : State) → t.graph ≡ s.graph → t.roots ≡ s.roots → t.stack ≡ s.stack → t.heap.place ≡ s.heap.place → t.heap.limit ≡ s.heap.limit →
+    length t.heap.pages ≡ length s.heap.pages → t.tables ≡ s.tables → Leaves s [] t
+leaves_all s t graph roots stack place limit page_count tables =
+    leaves_queued s t graph roots stack place limit page_count (ap (λ (tables : Tables). tables.ids) tables) (ap (λ (tables : Tables). tables.weak) tables)
+    (queues_none s t tables)
 
 pub leaves_same : (s t : State) → t ≡ s → Leaves s [] t
 leaves_same s t e = subst (Leaves s []) (sym e) (leaves_all s s refl refl refl refl refl refl refl)
@@ -70,7 +100,7 @@ leaves_same s t e = subst (Leaves s []) (sym e) (leaves_all s s refl refl refl r
 module _ (s : State) (events : List Event) (t : State) (h : Leaves s events t) where
   -- what isn't taken stands where it stood
   pub stays : (n : ℕ) → is_member nat_eq h.taken n ≡ false → get t.heap.place n ≡ get s.heap.place n
-  stays n out = h.place n ∙ get-without s.heap.place h.taken n ∙ ap (λ b. cond b None (get s.heap.place n)) out
+  stays n out = not_taken s events h.taken t (takes_of s t events h) n out
 
   pub stood : (n a : ℕ) → get t.heap.place n ≡ Some a → (get s.heap.place n ≡ Some a) × (is_member nat_eq h.taken n ≡ false)
   stood n a e = held_without s.heap.place h.taken n a (sym (h.place n) ∙ e)
@@ -103,52 +133,30 @@ module _ (s : State) (events : List Event) (t : State) (h : Leaves s events t) w
   pub leaves_reach : (n : ℕ) → Reach t n ↔ Reach s n
   leaves_reach n = ((λ r. reached_before n r), (λ r. reached_after n r))
 
-twice_without : (a b : Bool) (o : Option ℕ) → cond b None (cond a None o) ≡ cond (a || b) None o
-twice_without true true o = refl
-twice_without true false o = refl
-twice_without false true o = refl
-twice_without false false o = refl
-
 -- two pieces of work, one after the other
 pub leaves_then : (s m t : State) (now later : List Event) → Leaves s now m → Leaves m later t → Leaves s (now ++ later) t
 leaves_then s m t now later h k =
-    let not_twice : (n : ℕ) → is_member nat_eq h.taken n ≡ true → is_member nat_eq k.taken n ≡ true → ⊥ =
-    λ n first second.
-    let x = left-without s.heap.place h.taken n (ap is_some (sym (h.place n)) ∙ k.present n second) in
-    false≢true (sym x.1 ∙ first) in
+    let both = takes_then s m t now later h.taken k.taken (takes_of s m now h) (takes_of m t later k) in
     record {
       taken = h.taken ++ k.taken;
-      told = gone_among-append now later ∙ ap (λ names. names ++ gone_among later) h.told ∙ ap (λ names. h.taken ++ names) k.told;
-      present = λ n among. ⊎_elim
-          (λ first. h.present n first)
-          (λ second. (left-without s.heap.place h.taken n (ap is_some (sym (h.place n)) ∙ k.present n second)).0)
-          (member_cases h.taken k.taken n among);
+      told = both.told;
+      present = both.present;
       unreached = λ n among r. ⊎_elim
           (λ first. h.unreached n first r)
           (λ second. k.unreached n second ((leaves_reach s now m h n).1 r))
           (member_cases h.taken k.taken n among);
-      order = subst (AreToldInOrder s.heap.place []) (sym (map-append Told now later))
-          (AreToldInOrder-append s.heap.place [] (map Told now) (map Told later) h.order
-          (AreToldInOrder-same m.heap.place s.heap.place [] (map Told later)
-          (λ n among.
-          let second : is_member nat_eq k.taken n ≡ true = ap (λ names. is_member nat_eq names n) (sym k.told ∙ sym (gone_in-told later)) ∙ among in
-          sym (stays s now m h n (false_from_ne_true _ (λ first. not_twice n first second))))
-          k.order));
-      once = IsDistinct-append h.taken k.taken h.once k.once not_twice;
-      place = λ n.
-          k.place n
-          ∙ get-without m.heap.place k.taken n
-          ∙ ap (cond (is_member nat_eq k.taken n) None) (h.place n ∙ get-without s.heap.place h.taken n)
-          ∙ twice_without (is_member nat_eq h.taken n) (is_member nat_eq k.taken n) (get s.heap.place n)
-          ∙ ap (λ b. cond b None (get s.heap.place n)) (sym (list_any-append (nat_eq n) h.taken k.taken))
-          ∙ sym (get-without s.heap.place (h.taken ++ k.taken) n);
-      graph = k.graph ∙ h.graph;
+      order = both.order;
+      once = both.once;
+      place = both.place;
+      graph = both.graph;
       roots = k.roots ∙ h.roots;
       stack = k.stack ∙ h.stack;
-      limit = k.limit ∙ h.limit;
-      page_count = k.page_count ∙ h.page_count;
-      ids = k.ids ∙ h.ids;
-      weak = k.weak ∙ ap (entries_left k.taken) h.weak ∙ left_twice h.taken k.taken s.tables.weak;
+      limit = both.limit;
+      page_count = both.page_count;
+      ids = both.ids;
+      weak = both.weak;
+      silent = both.silent;
+      queues = both.queues;
     }
 
 -- the start of a marking
@@ -158,7 +166,10 @@ leaves_marked s t e = subst (Leaves s []) (sym e) (leaves_all s _ refl refl refl
 -- the sweep of a page
 leaves_swept_page : (s t : State) (freed : List ℕ) → Sweep1 s freed t → Leaves s [] t
 leaves_swept_page s t freed step =
-    subst (Leaves s []) (sym step.after) (leaves_all s _ refl refl refl refl refl (length-spared s.heap.place step.page s.heap.pages) refl)
+    leaves_queued s t (ap (λ (u : State). u.graph) step.after) (ap (λ (u : State). u.roots) step.after) (ap (λ (u : State). u.stack) step.after)
+    (ap (λ (u : State). u.heap.place) step.after) (ap (λ (u : State). u.heap.limit) step.after)
+    (ap (λ (u : State). length u.heap.pages) step.after ∙ length-spared s.heap.place step.page s.heap.pages)
+    (ap (λ (u : State). u.tables.ids) step.after) (ap (λ (u : State). u.tables.weak) step.after) (queues_swept_page s t freed step)
 
 -- the sweep of some pages
 pub leaves_swept : (pages : ℕ) (s t : State) (freed : List ℕ) → Sweeps pages s freed t → Leaves s [] t
@@ -183,4 +194,10 @@ leaves_taken s kind taken events t v = record {
   page_count = ap (λ (u : State). length u.heap.pages) v.takes;
   ids = ap (λ (u : State). u.tables.ids) v.takes;
   weak = ap (λ (u : State). u.tables.weak) v.takes;
+  silent = ap ran_among v.events_are ∙ ran_verdict_events kind taken;
+  queues = record {
+    queued = [];
+    defined = λ name. ap (λ (u : State). labels_of u.tables.finals name) v.takes;
+    queue = ap (λ (u : State). u.tables.queue) v.takes ∙ sym (append-nil s.tables.queue);
+  };
 }

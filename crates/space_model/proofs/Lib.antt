@@ -24,6 +24,8 @@ pub mod UnprotectedNames
 pub mod StackWords
 pub mod VerdictLaws
 pub mod MarkingKept
+pub mod FinalNames
+pub mod FinalsKept
 pub mod TablesKept
 pub mod EntryLaws
 pub mod AfterPieces
@@ -33,8 +35,11 @@ pub mod CorpseNames
 pub mod SweptLaws
 pub mod ToldNames
 pub mod PassingNames
+pub mod Queueing
+pub mod Taking
 pub mod Leaving
 pub mod WholeLaws
+pub mod ExitLaws
 pub mod MinorLaws
 pub mod Stages
 pub mod FirmNames
@@ -45,6 +50,9 @@ pub mod StatLaws
 pub mod PlacesAfter
 pub mod SoundKept
 pub mod TablesAfter
+pub mod FinalsAfter
+pub mod LeftByExit
+pub mod DumpLaws
 pub mod WordsKept
 pub mod InputsGiven
 pub mod Cutting

@@ -8,7 +8,7 @@ use Rattle.std.proofs.lemmas.Slice.Eq.{bytes_eq-Decides}
 use Rattle.space_model.specs.declared.command.Command.{Command}
 use Rattle.space_model.specs.declared.command.Command.TheVariants.{New, Set, DropRoot, Push, Raw, Pop, Store, RawStore, Load, Same, Unprotect}
 use Rattle.space_model.specs.declared.command.Command.TheVariants.{Id, ById, WeakSet, WeakGet, WeakKey, WeakSize, WeakDelete}
-use Rattle.space_model.specs.declared.command.Command.TheVariants.{Minor, Gc, Major, Mark, Finish, Sweep, Stat}
+use Rattle.space_model.specs.declared.command.Command.TheVariants.{Final, Unfinal, Run, Minor, Gc, Major, Mark, Finish, Sweep, Stat, Dump, Peek, Exit}
 use Rattle.space_model.specs.declared.command.Input.{Input}
 use Rattle.space_model.specs.declared.command.Operand.{Operand}
 use Rattle.space_model.specs.declared.reply.Refusal.{Refusal}
@@ -19,6 +19,9 @@ use Rattle.space_model.specs.declared.value.Value.{Value}
 use Rattle.space_model.specs.declared.value.Value.TheVariants.{Name}
 use Rattle.space_model.specs.Ages.{is_protected}
 use Rattle.space_model.specs.CommandTexts.{IsWritableInput}
+use Rattle.space_model.specs.FinalCommands.{FinalReply, UnfinalReply}
+use Rattle.space_model.specs.FinalLaws.{ChangesFinals}
+use Rattle.space_model.specs.Finalizers.{without_name}
 use Rattle.space_model.specs.Given.{IsGiven}
 use Rattle.space_model.specs.IdCommands.{with_id, IdReply, NameReply, FindsById}
 use Rattle.space_model.specs.Idents.{IsIdent}
@@ -38,7 +41,9 @@ use Rattle.space_model.specs.Sweeps.{Sweeps, AnswersSweep}
 use Rattle.space_model.specs.TableLaws.{ChangesMap}
 use Rattle.space_model.specs.WeakCommands.{name_or_nil, WeakSetReply, WeakGetReply, WeakKeyReply, WeakDeleteReply}
 use Rattle.space_model.specs.WeakMaps.{weak_value, with_weak_value, without_weak_value}
+use Rattle.space_model.proofs.AfterPieces.{tables_replaced}
 use Rattle.space_model.proofs.EntryLaws.{set_read, deleted_gone}
+use Rattle.space_model.proofs.FinalsKept.{SoundFinals-defined, SoundFinals-taken}
 use Rattle.space_model.proofs.MapLaws.{some_get}
 use Rattle.space_model.proofs.TablesKept.{SoundTables, SoundIds-with_id, AreSoundEntries-with, AreSoundEntries-deleted, weak_value-present}
 use Rattle.space_model.proofs.ValuesHold.{input_holds, read_holds, write_holds, named_holds}
@@ -57,9 +62,9 @@ abbrev pub AreMapsKept : Command → List WeakEntry → List WeakEntry → Type 
 AreMapsKept command entries later =
     (weak : List ℕ) (key : ℕ) → (ChangesMap command weak → ⊥) → weak_value later weak key ≡ weak_value entries weak key
 
--- the state with these tables
-abbrev pub tables_replaced : State → Tables → State
-tables_replaced s tables = record s { tables = tables }
+-- a command that doesn't define finalizers, or take some away, has the same
+abbrev pub AreFinalsKept : Command → List (ℕ × List ℕ) → List (ℕ × List ℕ) → Type 0
+AreFinalsKept command finals later = (ChangesFinals command → ⊥) → later ≡ finals
 
 -- nothing was changed; or a root was written or taken away, the stack replaced, a field written, a name made unprotected, the tables replaced,
 -- pages swept, or scans told
@@ -72,8 +77,9 @@ pub data IsPiece (command : Command) (s t : State) : Type 0 where
   Field : (name index : ℕ) → (value : Value) → (object : IsValid command s (Name name)) → (valid : IsValid command s value) →
       (reached : IsGiven command → IsReachedValue s value) → (after : FieldWritten s name index value t) → IsPiece command s t
   Guard : (name : ℕ) → (object : IsValid command s (Name name)) → (after : MadeUnprotected s name t) → IsPiece command s t
-  Tabled : (tables : Tables) → (sound : Sound s → SoundTables s.graph s.heap.place tables) → (ids : AreIdsKept s.tables.ids tables.ids) →
-      (maps : AreMapsKept command s.tables.weak tables.weak) → (after : t ≡ tables_replaced s tables) → IsPiece command s t
+  Tabled : (tables : Tables) → (sound : Sound s → SoundTables s.graph s.heap.place s.heap.corpses tables) →
+      (ids : AreIdsKept s.tables.ids tables.ids) → (maps : AreMapsKept command s.tables.weak tables.weak) →
+      (finals : AreFinalsKept command s.tables.finals tables.finals) → (queue : tables.queue ≡ s.tables.queue) → (after : t ≡ tables_replaced s tables) → IsPiece command s t
   Swept : (pages : ℕ) → (freed : List ℕ) → (sweeps : Sweeps pages s freed t) → IsPiece command s t
   Scans : (scans : ℕ) → (few : s.history.scanned + scans ≤ length s.history.seen) → (after : t ≡ scans_told s scans) → IsPiece command s t
 
@@ -182,9 +188,11 @@ module _ (command : Command) (s t : State) where
       (λ h.
       let at = some_get _ (object_present object name f h) in
       let b = h.layout.placed.allocated name at.0 at.1 in
-      record { ids = SoundIds-with_id s.graph s.tables.ids name b.0 b.1 h.ids; weak = h.weak })
+      record { ids = SoundIds-with_id s.graph s.tables.ids name b.0 b.1 h.ids; weak = h.weak; finals = h.finals; queue = h.queue })
       (with_id-kept s.tables.ids name)
       (λ weak key same. refl)
+      (λ same. refl)
+      refl
       tells.after)
       (λ (_, _, same). Nothing same)
       e
@@ -215,9 +223,13 @@ module _ (command : Command) (s t : State) where
       (λ h. record {
         ids = h.ids;
         weak = AreSoundEntries-with s.heap.place s.tables.weak weak k v (object_present key k f h) (object_present value v g h) h.weak;
+        finals = h.finals;
+        queue = h.queue;
       })
       (λ ids name e. e)
       (λ other name same. set_read s.tables.weak weak k v other name ∙ other_map (bytes_eq other weak) (nat_eq name k) (Some v) _ (only other same))
+      (λ same. refl)
+      refl
       after)
       (λ (_, _, same). Nothing same)
       e
@@ -246,11 +258,48 @@ module _ (command : Command) (s t : State) where
   wdel_piece : (weak : List ℕ) (found : Result ℕ Refusal) (reply : Reply) → ChangesOnly weak → WeakDeleteReply s weak found reply t → IsPiece command s t
   wdel_piece weak (Ok key) reply only e =
       Tabled (record s.tables { weak = without_weak_value s.tables.weak weak key })
-      (λ h. record { ids = h.ids; weak = AreSoundEntries-deleted s.heap.place s.tables.weak weak key h.weak })
+      (λ h. record { ids = h.ids; weak = AreSoundEntries-deleted s.heap.place s.tables.weak weak key h.weak; finals = h.finals; queue = h.queue })
       (λ ids name e. e)
       (λ other name same. deleted_gone s.tables.weak weak key other name ∙ other_map (bytes_eq other weak) (nat_eq name key) None _ (only other same))
+      (λ same. refl)
+      refl
       e.1
   wdel_piece weak (Err why) reply only e = Nothing e.unchanged
+
+  final_piece : (object : Operand) (label : List ℕ) (found : Result ℕ Refusal) (reply : Reply) → object_of s object ≡ found → ChangesFinals command →
+      FinalReply s label found reply t → IsPiece command s t
+  final_piece object label (Ok name) reply f changes e = ⊎_elim
+      (λ (_, after). Tabled (record s.tables { finals = s.tables.finals ++ (name, label) ∷ [] })
+      (λ h. record {
+        ids = h.ids;
+        weak = h.weak;
+        finals = SoundFinals-defined s.heap.place s.heap.corpses s.tables.finals name label (object_present object name f h) h.finals;
+        queue = h.queue;
+      })
+      (λ ids name e. e)
+      (λ weak key same. refl)
+      (λ same. absurd (same changes))
+      refl
+      after)
+      (λ (_, same). Nothing same)
+      e
+  final_piece object label (Err why) reply f changes e = Nothing e.unchanged
+
+  unfinal_piece : (found : Result ℕ Refusal) (reply : Reply) → ChangesFinals command → UnfinalReply s found reply t → IsPiece command s t
+  unfinal_piece (Ok name) reply changes e =
+      Tabled (record s.tables { finals = without_name s.tables.finals name })
+      (λ h. record {
+        ids = h.ids;
+        weak = h.weak;
+        finals = SoundFinals-taken s.heap.place s.heap.corpses s.tables.finals name h.finals;
+        queue = h.queue;
+      })
+      (λ ids name e. e)
+      (λ weak key same. refl)
+      (λ same. absurd (same changes))
+      refl
+      e.1
+  unfinal_piece (Err why) reply changes e = Nothing e.unchanged
 
   mark_piece : (count : ℕ) (reply : Reply) → AnswersMark s count reply t → IsPiece command s t
   mark_piece count (Marked scans grey) e =
@@ -294,6 +343,9 @@ replied_piece s t (WeakGet root weak key) reply e = wget_piece (WeakGet root wea
 replied_piece s t (WeakKey weak key) reply e = wkey_piece (WeakKey weak key) s t weak (object_of s key) reply e
 replied_piece s t (WeakSize weak) reply e = Nothing e.1
 replied_piece s t (WeakDelete weak key) reply e = wdel_piece (WeakDelete weak key) s t weak (object_of s key) reply (other_than weak) e
+replied_piece s t (Final object label) reply e = final_piece (Final object label) s t object label (object_of s object) reply refl tt e
+replied_piece s t (Unfinal object) reply e = unfinal_piece (Unfinal object) s t (object_of s object) reply tt e
+replied_piece s t (Run count) reply e = absurd e
 replied_piece s t Minor reply e = absurd e
 replied_piece s t Gc reply e = absurd e
 replied_piece s t Major reply e = absurd e
@@ -301,3 +353,6 @@ replied_piece s t (Mark count) reply e = mark_piece (Mark count) s t count reply
 replied_piece s t Finish reply e = absurd e
 replied_piece s t (Sweep count) reply e = sweep_piece (Sweep count) s t count reply e
 replied_piece s t Stat reply e = stat_piece Stat s t reply e
+replied_piece s t Dump reply e = absurd e
+replied_piece s t (Peek object) reply e = absurd e
+replied_piece s t Exit reply e = absurd e

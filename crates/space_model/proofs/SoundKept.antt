@@ -1,5 +1,5 @@
 -- The opening is sound, and lawful commands keep states so.
-use Rattle.std.proofs.Common.{◌≡◌, ℕ, ◌+◌, ◌≤◌, true, List, [], ◌∷◌, ◌++◌, length, nat_eq, refl, sym, ap, ◌∙◌, subst, arith, ⊎_elim, None, Some}
+use Rattle.std.proofs.Common.{◌≡◌, ℕ, ◌+◌, ◌≤◌, true, List, [], ◌∷◌, ◌++◌, length, drop, nat_eq, refl, sym, ap, ◌∙◌, subst, arith, ⊎_elim, None, Some}
 use Rattle.std.specs.Prelude.{is_some}
 use Rattle.std.specs.List.{IsDistinct}
 use Rattle.std.specs.Set.{is_member}
@@ -8,15 +8,16 @@ use Rattle.std.specs.FinMap.{FinMap, get, insert, keys, empty, get-empty}
 use Rattle.std.proofs.lemmas.Bool.{false≢true, and_parts}
 use Rattle.std.proofs.lemmas.List.{length-append}
 use Rattle.space_model.specs.declared.command.Command.{Command}
-use Rattle.space_model.specs.declared.command.Command.TheVariants.{New, Minor, Gc, Major, Finish}
+use Rattle.space_model.specs.declared.command.Command.TheVariants.{New, Run, Minor, Gc, Major, Finish, Dump, Peek, Exit}
 use Rattle.space_model.specs.declared.object.Guard.{Guard}
 use Rattle.space_model.specs.declared.object.Style.{Style}
 use Rattle.space_model.specs.declared.event.Event.{Event}
 use Rattle.space_model.specs.declared.event.Kind.TheVariants.{Minor as MinorKind, Full as FullKind}
 use Rattle.space_model.specs.declared.reply.Reply.{Reply}
-use Rattle.space_model.specs.declared.reply.Reply.TheVariants.{Made, Full, NoMemory, Refused}
+use Rattle.space_model.specs.declared.reply.Reply.TheVariants.{Made, Full, NoMemory, RanCount, Refused}
 use Rattle.space_model.specs.declared.value.Value.{Value}
 use Rattle.space_model.specs.declared.value.Value.TheVariants.{Name}
+use Rattle.space_model.specs.FinalCommands.{RunsFinals}
 use Rattle.space_model.specs.Graph.{IsChild, item_of, with_item}
 use Rattle.space_model.specs.Idents.{IsIdent}
 use Rattle.space_model.specs.Lawful.{Effects, Lawful, LawfulAll}
@@ -29,11 +30,13 @@ use Rattle.space_model.specs.Reach.{IsStart, Reach}
 use Rattle.space_model.specs.Roots.{root_names}
 use Rattle.space_model.specs.Given.{IsGiven, AreGiven}
 use Rattle.space_model.specs.Sound.{AreSlots, Sound, IsSmall}
-use Rattle.space_model.specs.State.{State, Tables, opening}
+use Rattle.space_model.specs.State.{State, opening}
 use Rattle.space_model.specs.StoredWords.{without_pair}
-use Rattle.space_model.proofs.AfterPieces.{heap_of, tables_of, sound_of, after_piece}
+use Rattle.space_model.proofs.AfterPieces.{heap_of, tables_of, Sound-tables_replaced, after_piece}
 use Rattle.space_model.proofs.CollectionsKept.{Sound-sweeps}
 use Rattle.space_model.proofs.CorpsesKept.{SoundCorpses-born}
+use Rattle.space_model.proofs.ExitLaws.{answers_exit_sound}
+use Rattle.space_model.proofs.FinalsKept.{SoundFinals-born, SoundQueue-born, SoundQueue-longer, SoundQueue-run}
 use Rattle.space_model.proofs.KeptNames.{SoundKept-born}
 use Rattle.space_model.proofs.LayoutKept.{IsFoundAt, found_at, fresh_slot, fresh_corpse, fresh_left, SoundLayout-born}
 use Rattle.space_model.proofs.LeftKept.{SoundLeft-none, SoundStale-none, SoundLeft-born, SoundStale-born}
@@ -43,10 +46,10 @@ use Rattle.space_model.proofs.MarkingKept.{SoundMarking-born, SoundMarking-field
 use Rattle.space_model.proofs.NamesKept.{written_shape, written_long, SoundNames-born, SoundNames-root_written, SoundNames-root_dropped, SoundNames-field_written, SoundStale-field_written, SoundKept-field_written}
 use Rattle.space_model.proofs.SweepKept.{SoundSweep-born, SoundUsed-born}
 use Rattle.space_model.proofs.Members.{member_filter}
-use Rattle.space_model.proofs.TablesKept.{SoundTables, SoundIds-longer, AreSoundEntries-present}
+use Rattle.space_model.proofs.TablesKept.{SoundIds-longer, AreSoundEntries-present}
 use Rattle.space_model.proofs.ReachedLaws.{member-keys}
 use Rattle.space_model.proofs.Reaching.{IsReached-least}
-use Rattle.space_model.proofs.RepliedPieces.{IsPiece, Nothing, Root, Dropped, Stack, Field, Guard as GuardPiece, Tabled, Swept, Scans, tables_replaced, replied_piece}
+use Rattle.space_model.proofs.RepliedPieces.{IsPiece, Nothing, Root, Dropped, Stack, Field, Guard as GuardPiece, Tabled, Swept, Scans, replied_piece}
 use Rattle.space_model.proofs.SameShapes.{SoundLayout-shaped, SoundCorpses-shaped, SoundLeft-shaped}
 use Rattle.space_model.proofs.Stages.{passed_sound, place_sound}
 use Rattle.space_model.proofs.UnprotectedNames.{unprotected_shape, unprotected_long, SoundNames-unprotected, SoundStale-unprotected, SoundKept-unprotected, AreSoundItems-unprotected}
@@ -110,6 +113,8 @@ Sound-opening limit = record {
   roots = tt;
   ids = record { allocated = λ n m. absurd (false≢true m); once = tt };
   weak = tt;
+  finals = λ n m. absurd (false≢true m);
+  queue = λ n m. absurd (false≢true m);
   names = record {
     children_present = λ m n p c. absurd (nothing_present m p);
     roots_present = λ n m. absurd (no_root n m);
@@ -151,6 +156,9 @@ Sound-born s t root fields guard style address ident few found e h =
         ids = SoundIds-longer s.graph (s.graph ++ new_item guard style fields ∷ []) s.tables.ids (omega arith) h.ids;
         weak = AreSoundEntries-present s.heap.place (insert s.heap.place (length s.graph + 1) address) s.tables.weak
             (present-insert s.heap.place (length s.graph + 1) address) h.weak;
+        finals = SoundFinals-born s.heap.place s.heap.corpses s.tables.finals (length s.graph + 1) address h.finals;
+        queue = SoundQueue-born s.graph (s.graph ++ new_item guard style fields ∷ []) s.heap.place s.heap.corpses s.tables.queue (length s.graph + 1) address
+            (omega arith) (omega arith) h.queue;
       };
       once = h.moments.once;
       marking = λ e. SoundMarking-born s fields guard style address h.layout.placed (h.marking e);
@@ -215,7 +223,12 @@ Sound-field_written s t name index value there present small reached e h =
       names = SoundNames-field_written s name index value h.layout.placed b.0 b.1 present h.names;
       items = AreSoundItems-field_written s.graph name index value small h.items;
       roots = h.roots;
-      tables = record { ids = SoundIds-longer s.graph written s.tables.ids (omega (arith, long)) h.ids; weak = h.weak };
+      tables = record {
+        ids = SoundIds-longer s.graph written s.tables.ids (omega (arith, long)) h.ids;
+        weak = h.weak;
+        finals = h.finals;
+        queue = SoundQueue-longer s.graph written s.heap.place s.heap.corpses s.tables.queue (omega (arith, long)) h.queue;
+      };
       once = h.moments.once;
       marking = λ m. SoundMarking-field_written s name index value h.layout.placed b.0 b.1 reached h.moments (h.marking m);
     })
@@ -241,15 +254,15 @@ Sound-unprotected s t name there e h =
       names = SoundNames-unprotected s name h.layout.placed there h.names;
       items = AreSoundItems-unprotected s name h.layout.placed there h.items;
       roots = h.roots;
-      tables = record { ids = SoundIds-longer s.graph now s.tables.ids (omega (arith, long)) h.ids; weak = h.weak };
+      tables = record {
+        ids = SoundIds-longer s.graph now s.tables.ids (omega (arith, long)) h.ids;
+        weak = h.weak;
+        finals = h.finals;
+        queue = SoundQueue-longer s.graph now s.heap.place s.heap.corpses s.tables.queue (omega (arith, long)) h.queue;
+      };
       once = h.moments.once;
       marking = λ m. SoundMarking-unprotected s name h.layout.placed there (h.marking m);
     })
-
-Sound-tables_replaced : (s t : State) (tables : Tables) → SoundTables s.graph s.heap.place tables → t ≡ tables_replaced s tables → Sound s → Sound t
-Sound-tables_replaced s t tables sound e h = subst Sound (sym e) (sound_of (tables_replaced s tables) (heap_of s h) h.names h.items h.roots sound
-    (record { seen = h.moments.seen; once = h.moments.once; mixed = h.moments.mixed })
-    h.marking)
 
 new_sound : (s t : State) (root : List ℕ) (fields : ℕ) (guard : Guard) (style : Style) (events : List Event) (reply : Reply) → IsIdent root →
     AnswersNew s root fields guard style events reply t → Sound s → Sound t
@@ -265,6 +278,18 @@ new_sound s t root fields guard style events NoMemory ident e h = ⊎_elim
 new_sound s t root fields guard style events (Refused why) ident e h = subst Sound (sym e.3) h
 new_sound s t root fields guard style events _ ident e h = absurd e
 
+runs_sound : (s t : State) (count : ℕ) (events : List Event) (reply : Reply) → RunsFinals s count events reply t → Sound s → Sound t
+runs_sound s t count events (RanCount ran) e h =
+    Sound-tables_replaced s t (record s.tables { queue = drop count s.tables.queue })
+    (record {
+      ids = h.ids;
+      weak = h.weak;
+      finals = h.finals;
+      queue = SoundQueue-run s.graph s.heap.place s.heap.corpses s.tables.queue count h.queue;
+    })
+    e.2 h
+runs_sound s t count events _ e h = absurd e
+
 piece_sound : (command : Command) (s t : State) → IsGiven command → IsPiece command s t → Sound s → Sound t
 piece_sound command s t i (Nothing same) h = subst Sound (sym same) h
 piece_sound command s t i (Root root value ident valid after) h = let v = valid i h in Sound-root_written s t root value (ident i) v.0 v.1 after h
@@ -274,17 +299,21 @@ piece_sound command s t i (Field name index value object valid reached after) h 
     let v = valid i h in
     Sound-field_written s t name index value (name_present s.heap.place name (object i h).0) v.0 v.1 (reached i) after h
 piece_sound command s t i (GuardPiece name object after) h = Sound-unprotected s t name (name_present s.heap.place name (object i h).0) after h
-piece_sound command s t i (Tabled tables sound ids maps after) h = Sound-tables_replaced s t tables (sound h) after h
+piece_sound command s t i (Tabled tables sound ids maps finals queue after) h = Sound-tables_replaced s t tables (sound h) after h
 piece_sound command s t i (Swept pages freed sweeps) h = Sound-sweeps pages s t freed sweeps h
 piece_sound command s t i (Scans scans few after) h = Sound-scans_told s t scans few after h
 
 effects_sound : (s t : State) (command : Command) (events : List Event) (answer : List Output) → IsGiven command → Effects s command events answer t →
     Sound s → Sound t
 effects_sound s t (New root fields guard style) events answer i e h = new_sound s t root fields guard style events e.reply i.1.0 e.is h
+effects_sound s t (Run count) events answer i e h = runs_sound s t count events e.reply e.is h
 effects_sound s t Minor events answer i e h = collects_sound s t MinorKind events e.reply e.is h
 effects_sound s t Gc events answer i e h = collects_sound s t FullKind events e.reply e.is h
 effects_sound s t Major events answer i e h = major_sound s t events e.reply e.is h
 effects_sound s t Finish events answer i e h = finish_sound s t events e.reply e.is h
+effects_sound s t Dump events answer i e h = subst Sound (sym e.1.unchanged) h
+effects_sound s t (Peek object) events answer i e h = subst Sound (sym e.1.1) h
+effects_sound s t Exit events answer i e h = answers_exit_sound s t events e.reply e.is h
 effects_sound s t command events answer i e h = piece_sound command s t i (replied_piece s t command e.1.reply e.1.is) h
 
 pub lawful_sound : (s t : State) (command : Command) (outputs : List Output) → IsGiven command → Lawful s command outputs t → Sound s → Sound t

@@ -1,20 +1,23 @@
 -- What a command does to the tables: ids stay, and entries of weak maps go with their keys and values.
-use Rattle.std.proofs.Common.{◌≡◌, ℕ, zero, suc, ◌+◌, ◌*◌, true, false, List, [], ◌∷◌, nat_eq, refl, sym, ap, ◌∙◌, subst, ⊎_elim, arith, Some}
+use Rattle.std.proofs.Common.{◌≡◌, ℕ, zero, suc, ◌+◌, ◌*◌, true, false, List, [], ◌∷◌, ◌++◌, take, nat_eq, refl, sym, ap, ◌∙◌, subst, ⊎_elim, arith, Some}
 use Rattle.std.specs.Prelude.{◌↔◌, slice_get}
-use Rattle.std.specs.List.{IsDistinct, AllByRecursion}
+use Rattle.std.specs.List.{IsDistinct}
 use Rattle.std.specs.Set.{is_member}
-use Rattle.std.proofs.lemmas.Bool.{false≢true, false_from_ne_true, true_from_ne_false, or_from, or_left, or_right, eq-eqb}
-use Rattle.std.proofs.lemmas.Map.Keys.{IsDistinct-head, IsDistinct-tail}
+use Rattle.std.proofs.lemmas.Bool.{false≢true, false_from_ne_true, true_from_ne_false, or_left, or_right, eq-eqb}
+use Rattle.std.proofs.lemmas.List.{append-nil}
+use Rattle.std.proofs.lemmas.Map.Keys.{IsDistinct-tail}
 use Rattle.space_model.specs.declared.command.Command.{Command}
-use Rattle.space_model.specs.declared.command.Command.TheVariants.{New, Minor, Gc, Major, Finish}
+use Rattle.space_model.specs.declared.command.Command.TheVariants.{New, Run, Minor, Gc, Major, Finish, Dump, Peek, Exit}
 use Rattle.space_model.specs.declared.event.Event.{Event}
 use Rattle.space_model.specs.declared.event.Kind.{Kind}
 use Rattle.space_model.specs.declared.event.Kind.TheVariants.{Minor as MinorKind, Full as FullKind}
 use Rattle.space_model.specs.declared.object.Guard.{Guard}
 use Rattle.space_model.specs.declared.object.Style.{Style}
 use Rattle.space_model.specs.declared.reply.Reply.{Reply}
-use Rattle.space_model.specs.declared.reply.Reply.TheVariants.{Made, Full, NoMemory, Scanned, Refused}
+use Rattle.space_model.specs.declared.reply.Reply.TheVariants.{Made, Full, NoMemory, RanCount, Scanned, ExitRan, Refused}
 use Rattle.space_model.specs.Collections.{Collects}
+use Rattle.space_model.specs.Exit.{AnswersExit}
+use Rattle.space_model.specs.FinalCommands.{ran_events, RunsFinals}
 use Rattle.space_model.specs.IdCommands.{IsIdOf}
 use Rattle.space_model.specs.Lawful.{Effects, Lawful}
 use Rattle.space_model.specs.Layout.{pool_for}
@@ -26,22 +29,16 @@ use Rattle.space_model.specs.State.{State, Tables, is_present}
 use Rattle.space_model.specs.TableLaws.{ChangesMap}
 use Rattle.space_model.specs.WeakMaps.{weak_value, entries_left}
 use Rattle.space_model.proofs.EntryLaws.{all_left, left_value, value_left}
+use Rattle.space_model.proofs.ExitLaws.{gone_among-ran, exit_takes}
+use Rattle.space_model.proofs.FinalNames.{head_apart}
 use Rattle.space_model.proofs.Leaving.{Leaves, leaves_swept}
 use Rattle.space_model.proofs.MajorLaws.{major_leaves, finish_leaves}
 use Rattle.space_model.proofs.PlacesAfter.{lawful_told, gone_told}
 use Rattle.space_model.proofs.RepliedPieces.{AreIdsKept, IsPiece, Nothing, Root, Dropped, Stack, Field, Guard as GuardPiece, Tabled, Swept, Scans, replied_piece}
 use Rattle.space_model.proofs.Stages.{passed_leaves, place_leaves}
 use Rattle.space_model.proofs.TablesKept.{weak_key-present, weak_value-present}
-use Rattle.space_model.proofs.ToldNames.{gone_among}
+use Rattle.space_model.proofs.ToldNames.{gone_among, gone_among-append}
 use Rattle.space_model.proofs.WholeLaws.{leaves_collection}
-
--- the first of names that are there once isn't among the others
-head_apart : (name : ℕ) (names : List ℕ) → IsDistinct nat_eq (name ∷ names) → is_member nat_eq names name ≡ false
-head_apart name names once = none_among name names (IsDistinct-head nat_eq name names once)
-  where
-    none_among : (name : ℕ) (names : List ℕ) → AllByRecursion (λ other. nat_eq name other ≡ false) names → is_member nat_eq names name ≡ false
-    none_among name [] h = refl
-    none_among name (other ∷ names) h = or_from _ _ h.0 (none_among name names h.1)
 
 get_member : (names : List ℕ) (k name : ℕ) → slice_get names k ≡ Some name → is_member nat_eq names name ≡ true
 get_member [] k name e = absurd (cc)
@@ -64,12 +61,17 @@ module _ (command : Command) (s t : State) (events : List Event) where
   }
 
   -- where nothing goes
+  none_goes : gone_among events ≡ [] → t.tables.ids ≡ s.tables.ids → t.tables.weak ≡ s.tables.weak → TablesAfter command s events t
+  none_goes none ids weak = record {
+    ids = λ k name e. ap (λ ids. slice_get ids k) ids ∙ e;
+    values = λ map key other.
+        ap (λ entries. weak_value entries map key)
+        (weak ∙ sym (all_left s.tables.weak) ∙ ap (λ names. entries_left names s.tables.weak) (sym none));
+  }
+
   same_tables : events ≡ [] → t.tables ≡ s.tables → TablesAfter command s events t
-  same_tables none same = subst (λ events. TablesAfter command s events t) (sym none) (record {
-    ids = λ k name e. ap (λ (tables : Tables). slice_get tables.ids k) same ∙ e;
-    values = λ weak key other.
-        ap (λ (tables : Tables). weak_value tables.weak weak key) same ∙ ap (λ entries. weak_value entries weak key) (sym (all_left s.tables.weak));
-  })
+  same_tables none same =
+      none_goes (ap gone_among none) (ap (λ (tables : Tables). tables.ids) same) (ap (λ (tables : Tables). tables.weak) same)
 
   same_state : events ≡ [] → t ≡ s → TablesAfter command s events t
   same_state none same = same_tables none (ap (λ (u : State). u.tables) same)
@@ -81,7 +83,7 @@ module _ (command : Command) (s t : State) (events : List Event) where
   piece_tables none (Stack words after) = same_tables none (ap (λ (u : State). u.tables) after)
   piece_tables none (Field name index value object valid reached after) = same_tables none (ap (λ (u : State). u.tables) after)
   piece_tables none (GuardPiece name object after) = same_tables none (ap (λ (u : State). u.tables) after)
-  piece_tables none (Tabled tables sound ids maps after) = subst (λ events. TablesAfter command s events t) (sym none) (record {
+  piece_tables none (Tabled tables sound ids maps finals queue after) = subst (λ events. TablesAfter command s events t) (sym none) (record {
     ids = λ k name e. ap (λ (u : State). slice_get u.tables.ids k) after ∙ ids k name e;
     values = λ weak key other.
         ap (λ (u : State). weak_value u.tables.weak weak key) after
@@ -117,14 +119,41 @@ module _ (command : Command) (s t : State) (events : List Event) where
   collects_tables kind (Scanned scans) e = worked (leaves_collection s t kind events scans e)
   collects_tables kind _ e = absurd e
 
+  runs_tables : (count : ℕ) (reply : Reply) → RunsFinals s count events reply t → TablesAfter command s events t
+  runs_tables count (RanCount ran) e =
+      none_goes (ap gone_among e.0 ∙ gone_among-ran (take count s.tables.queue)) (ap (λ (u : State). u.tables.ids) e.2)
+      (ap (λ (u : State). u.tables.weak) e.2)
+  runs_tables count _ e = absurd e
+
+  exit_tables : (reply : Reply) → AnswersExit s events reply t → TablesAfter command s events t
+  exit_tables (ExitRan ran) e =
+      let x = exit_takes s t events ran e in
+      let told : gone_among events ≡ x.taken =
+      ap gone_among x.events_are
+      ∙ gone_among-append x.told (ran_events x.swept.tables.queue)
+      ∙ ap (λ names. gone_among x.told ++ names) (gone_among-ran x.swept.tables.queue)
+      ∙ append-nil (gone_among x.told)
+      ∙ x.takes.told in
+      record {
+        ids = λ k name e. ap (λ (u : State). slice_get u.tables.ids k) x.after ∙ ap (λ ids. slice_get ids k) x.takes.ids ∙ e;
+        values = λ weak key other.
+            ap (λ (u : State). weak_value u.tables.weak weak key) x.after
+            ∙ ap (λ entries. weak_value entries weak key) (x.takes.weak ∙ ap (λ names. entries_left names s.tables.weak) (sym told));
+      }
+  exit_tables _ e = absurd e
+
 effects_tables : (s t : State) (command : Command) (events : List Event) (answer : List Output) → Effects s command events answer t →
     TablesAfter command s events t
 effects_tables s t (New root fields guard style) events answer e =
     new_tables (New root fields guard style) s t events root fields guard style e.reply e.is
+effects_tables s t (Run count) events answer e = runs_tables (Run count) s t events count e.reply e.is
 effects_tables s t Minor events answer e = collects_tables Minor s t events MinorKind e.reply e.is
 effects_tables s t Gc events answer e = collects_tables Gc s t events FullKind e.reply e.is
 effects_tables s t Major events answer e = worked Major s t events (major_leaves s t events e.reply e.is)
 effects_tables s t Finish events answer e = worked Finish s t events (finish_leaves s t events e.reply e.is)
+effects_tables s t Dump events answer e = same_state Dump s t events e.0 e.1.unchanged
+effects_tables s t (Peek object) events answer e = same_state (Peek object) s t events e.0 e.1.1
+effects_tables s t Exit events answer e = exit_tables Exit s t events e.reply e.is
 effects_tables s t command events answer e = piece_tables command s t events e.0 (replied_piece s t command e.1.reply e.1.is)
 
 pub ids_stay : (s t : State) (command : Command) (outputs : List Output) → Lawful s command outputs t → (name id : ℕ) → IsIdOf s.tables.ids name id →

@@ -1,4 +1,5 @@
--- Names with an id were allocated, and entries of weak maps have present keys and values.
+-- Names with an id were allocated, entries of weak maps have present keys and values, and finalizers are of objects that aren't swept until
+-- they are queued.
 use Rattle.std.proofs.Common.{◌≡◌, ℕ, ◌<◌, ◌≤◌, ◌&&◌, not, Bool, true, false, List, [], ◌∷◌, length, nat_eq, refl, sym, ap, ◌∙◌, arith, ⊎_elim, Option, None, Some}
 use Rattle.std.specs.Prelude.{is_some}
 use Rattle.std.specs.List.{filter}
@@ -13,16 +14,18 @@ use Rattle.std.proofs.lemmas.Slice.Eq.{bytes_eq-Decides}
 use Rattle.space_model.specs.Graph.{Item}
 use Rattle.space_model.specs.IdCommands.{with_id}
 use Rattle.space_model.specs.Maps.{without}
-use Rattle.space_model.specs.Sound.{SoundIds, AreSoundEntries}
+use Rattle.space_model.specs.Sound.{SoundIds, AreSoundEntries, SoundFinals, SoundQueue}
 use Rattle.space_model.specs.State.{Tables, WeakEntry}
 use Rattle.space_model.specs.WeakMaps.{is_entry_of, weak_value, with_weak_value, without_weak_value, entries_left}
 use Rattle.space_model.proofs.MapLaws.{present-without}
 use Rattle.space_model.proofs.Members.{member_cases}
 
 -- what is asked of the tables
-pub record SoundTables (graph : List Item) (place : FinMap nat_cmp ℕ) (tables : Tables) : Type 0 where
+pub record SoundTables (graph : List Item) (place corpses : FinMap nat_cmp ℕ) (tables : Tables) : Type 0 where
   pub ids : SoundIds graph tables.ids
   pub weak : AreSoundEntries place tables.weak
+  pub finals : SoundFinals place corpses tables.finals
+  pub queue : SoundQueue graph place corpses tables.queue
 
 -- ids
 

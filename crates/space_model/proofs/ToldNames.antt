@@ -11,11 +11,10 @@ use Rattle.std.proofs.lemmas.Bool.{false_from_ne_true, or_left, or_right, or_cas
 use Rattle.std.proofs.lemmas.List.{append-nil}
 use Rattle.std.proofs.lemmas.Map.Made.{is_member-Decides}
 use Rattle.space_model.specs.declared.event.Event.{Event}
-use Rattle.space_model.specs.declared.event.Event.TheVariants.{Gone, Verdict}
+use Rattle.space_model.specs.declared.event.Event.TheVariants.{Gone, Verdict, Ran}
 use Rattle.space_model.specs.declared.event.Kind.{Kind}
-use Rattle.space_model.specs.declared.reply.Reply.{Reply}
 use Rattle.space_model.specs.Maps.{address_in, IsRising}
-use Rattle.space_model.specs.Outputs.{Output, Told, Replied, gone_of, gone_in}
+use Rattle.space_model.specs.Outputs.{Output, Told, Listed, Peeked, Replied, gone_of, gone_in}
 use Rattle.space_model.specs.ToldInOrder.{AreToldInOrder}
 use Rattle.space_model.specs.Verdicts.{verdict_events}
 use Rattle.space_model.proofs.Growing.{IsDistinct-cons}
@@ -31,9 +30,9 @@ gone_among-append [] others = refl
 gone_among-append (event ∷ events) others =
     ap (λ names. gone_of event ++ names) (gone_among-append events others) ∙ sym (append_assoc (gone_of event) (gone_among events) (gone_among others))
 
-pub gone_outputs : (events : List Event) (reply : Reply) → gone_in (map Told events ++ Replied reply ∷ []) ≡ gone_among events
-gone_outputs [] reply = refl
-gone_outputs (event ∷ events) reply = ap (λ names. gone_of event ++ names) (gone_outputs events reply)
+pub gone_outputs : (events : List Event) (answer : List Output) → gone_in answer ≡ [] → gone_in (map Told events ++ answer) ≡ gone_among events
+gone_outputs [] answer none = none
+gone_outputs (event ∷ events) answer none = ap (λ names. gone_of event ++ names) (gone_outputs events answer none)
 
 gone_verdict : (kind : Kind) (count : ℕ) (taken : List ℕ) → gone_among (map Gone taken ++ Verdict kind count ∷ []) ≡ taken
 gone_verdict kind count [] = refl
@@ -45,10 +44,10 @@ gone_verdict_events kind taken = gone_verdict kind (length taken) taken
 
 -- names in ascending order
 
-rising_tail : (m : FinMap nat_cmp ℕ) (first : ℕ) (others : List ℕ) → IsRising m (first ∷ others) → IsRising m others
+pub rising_tail : (m : FinMap nat_cmp ℕ) (first : ℕ) (others : List ℕ) → IsRising m (first ∷ others) → IsRising m others
 rising_tail m first others h = λ i j d lt on. h (suc i) (suc j) d (omega arith) (omega arith)
 
-rising_first : (m : FinMap nat_cmp ℕ) (first : ℕ) (others : List ℕ) (n : ℕ) → IsRising m (first ∷ others) → is_member nat_eq others n ≡ true →
+pub rising_first : (m : FinMap nat_cmp ℕ) (first : ℕ) (others : List ℕ) (n : ℕ) → IsRising m (first ∷ others) → is_member nat_eq others n ≡ true →
     address_in m first < address_in m n
 rising_first m first others n h among =
     let c = (is_member-Decides unsigned_Decides others n).0 among in
@@ -116,6 +115,9 @@ pub AreToldInOrder-append : (m : FinMap nat_cmp ℕ) (names : List ℕ) (outputs
 AreToldInOrder-append m names [] others h k = subst (λ names. AreToldInOrder m names others) (sym h) k
 AreToldInOrder-append m names (Told (Gone name) ∷ outputs) others h k = AreToldInOrder-append m (names ++ name ∷ []) outputs others h k
 AreToldInOrder-append m names (Told (Verdict kind gone) ∷ outputs) others h k = (h.0, h.1, AreToldInOrder-append m [] outputs others h.2 k)
+AreToldInOrder-append m names (Told (Ran name label) ∷ outputs) others h k = AreToldInOrder-append m names outputs others h k
+AreToldInOrder-append m names (Listed line ∷ outputs) others h k = AreToldInOrder-append m names outputs others h k
+AreToldInOrder-append m names (Peeked address words ∷ outputs) others h k = AreToldInOrder-append m names outputs others h k
 AreToldInOrder-append m names (Replied reply ∷ outputs) others h k = AreToldInOrder-append m names outputs others h k
 
 -- the same, by a map in which the names have the same addresses
@@ -131,6 +133,9 @@ AreToldInOrder-same m k names (Told (Verdict kind gone) ∷ outputs) same h = (
   h.1,
   AreToldInOrder-same m k [] outputs (λ n among. same n (member_right names (gone_in outputs) n among)) h.2,
 )
+AreToldInOrder-same m k names (Told (Ran name label) ∷ outputs) same h = AreToldInOrder-same m k names outputs same h
+AreToldInOrder-same m k names (Listed line ∷ outputs) same h = AreToldInOrder-same m k names outputs same h
+AreToldInOrder-same m k names (Peeked address words ∷ outputs) same h = AreToldInOrder-same m k names outputs same h
 AreToldInOrder-same m k names (Replied reply ∷ outputs) same h = AreToldInOrder-same m k names outputs same h
 
 -- the names of the outputs that tell events

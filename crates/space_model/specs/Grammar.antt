@@ -6,7 +6,7 @@ use Rattle.std.specs.Str.Parse.{AllDigits, digits_value}
 use Rattle.space_model.specs.declared.command.Command.{Command}
 use Rattle.space_model.specs.declared.command.Command.TheVariants.{New, Set, DropRoot, Push, Raw, Pop, Store, RawStore, Load, Same, Unprotect}
 use Rattle.space_model.specs.declared.command.Command.TheVariants.{Id, ById, WeakSet, WeakGet, WeakKey, WeakSize, WeakDelete}
-use Rattle.space_model.specs.declared.command.Command.TheVariants.{Minor, Gc, Major, Mark, Finish, Sweep, Stat}
+use Rattle.space_model.specs.declared.command.Command.TheVariants.{Final, Unfinal, Run, Minor, Gc, Major, Mark, Finish, Sweep, Stat, Dump, Peek, Exit}
 use Rattle.space_model.specs.declared.command.Input.{Input}
 use Rattle.space_model.specs.declared.command.Input.TheVariants.{From, Nil, Small}
 use Rattle.space_model.specs.declared.command.Operand.{Operand}
@@ -101,6 +101,9 @@ form_of (WeakGet root weak key) = Exactly (codes "wget") ∷ IdentWord root ∷ 
 form_of (WeakKey weak key) = Exactly (codes "wkey") ∷ IdentWord weak ∷ OperandWord key ∷ []
 form_of (WeakSize weak) = Exactly (codes "wsize") ∷ IdentWord weak ∷ []
 form_of (WeakDelete weak key) = Exactly (codes "wdel") ∷ IdentWord weak ∷ OperandWord key ∷ []
+form_of (Final object label) = Exactly (codes "final") ∷ OperandWord object ∷ IdentWord label ∷ []
+form_of (Unfinal object) = Exactly (codes "unfinal") ∷ OperandWord object ∷ []
+form_of (Run count) = Exactly (codes "run") ∷ Decimal count ∷ []
 form_of Minor = Exactly (codes "minor") ∷ []
 form_of Gc = Exactly (codes "gc") ∷ []
 form_of Major = Exactly (codes "major") ∷ []
@@ -108,6 +111,9 @@ form_of (Mark count) = Exactly (codes "mark") ∷ Decimal count ∷ []
 form_of Finish = Exactly (codes "finish") ∷ []
 form_of (Sweep count) = Exactly (codes "sweep") ∷ Decimal count ∷ []
 form_of Stat = Exactly (codes "stat") ∷ []
+form_of Dump = Exactly (codes "dump") ∷ []
+form_of (Peek object) = Exactly (codes "peek") ∷ OperandWord object ∷ []
+form_of Exit = Exactly (codes "exit") ∷ []
 
 -- the text is this word
 abbrev pub IsFormWord : List ℕ → FormWord → Type 0

@@ -3,13 +3,16 @@ use Rattle.std.specs.Prelude.{◌≡◌, List, [], ◌∷◌, ◌++◌, map}
 use Rattle.space_model.specs.declared.command.Command.{Command}
 use Rattle.space_model.specs.declared.command.Command.TheVariants.{New, Set, DropRoot, Push, Raw, Pop, Store, RawStore, Load, Same, Unprotect}
 use Rattle.space_model.specs.declared.command.Command.TheVariants.{Id, ById, WeakSet, WeakGet, WeakKey, WeakSize, WeakDelete}
-use Rattle.space_model.specs.declared.command.Command.TheVariants.{Minor, Gc, Major, Mark, Finish, Sweep, Stat}
+use Rattle.space_model.specs.declared.command.Command.TheVariants.{Final, Unfinal, Run, Minor, Gc, Major, Mark, Finish, Sweep, Stat, Dump, Peek, Exit}
 use Rattle.space_model.specs.declared.event.Event.{Event}
 use Rattle.space_model.specs.declared.event.Kind.TheVariants.{Minor as MinorKind, Full}
 use Rattle.space_model.specs.declared.reply.Reply.{Reply}
 use Rattle.space_model.specs.RootCommands.{Sets, DropsRoot, Loads}
 use Rattle.space_model.specs.ObjectCommands.{Stores, RawStores, Unprotects, Compares}
 use Rattle.space_model.specs.Collections.{Collects}
+use Rattle.space_model.specs.Dumps.{Dumps, Peeks}
+use Rattle.space_model.specs.Exit.{AnswersExit}
+use Rattle.space_model.specs.FinalCommands.{DefinesFinal, TakesFinals, RunsFinals}
 use Rattle.space_model.specs.IdCommands.{TellsIdOf, FindsById}
 use Rattle.space_model.specs.MajorMarking.{AnswersMajor, AnswersMark, AnswersFinish}
 use Rattle.space_model.specs.NewCommand.{AnswersNew}
@@ -20,7 +23,7 @@ use Rattle.space_model.specs.State.{State}
 use Rattle.space_model.specs.Sweeps.{AnswersSweep}
 use Rattle.space_model.specs.WeakCommands.{SetsWeak, GetsWeak, HasWeak, CountsWeak, DeletesWeak}
 
--- the reply of a command without events, and the state after it; of a command with events it never holds
+-- the reply of a command without events that gives one reply, and the state after it; of another command it never holds
 abbrev pub Replies : State → Command → Reply → State → Type 0
 Replies s (Set root value) reply t = Sets s root value reply t
 Replies s (DropRoot root) reply t = DropsRoot s root reply t
@@ -39,6 +42,8 @@ Replies s (WeakGet root weak key) reply t = GetsWeak s root weak key reply t
 Replies s (WeakKey weak key) reply t = HasWeak s weak key reply t
 Replies s (WeakSize weak) reply t = CountsWeak s weak reply t
 Replies s (WeakDelete weak key) reply t = DeletesWeak s weak key reply t
+Replies s (Final object label) reply t = DefinesFinal s object label reply t
+Replies s (Unfinal object) reply t = TakesFinals s object reply t
 Replies s (Mark count) reply t = AnswersMark s count reply t
 Replies s (Sweep count) reply t = AnswersSweep s count reply t
 Replies s Stat reply t = AnswersStat s reply t
@@ -53,10 +58,14 @@ pub record IsOneReply (Is : Reply → Type 0) (answer : List Output) : Type 0 wh
 -- the events of a command, its outputs after them, and the state after it
 abbrev pub Effects : State → Command → List Event → List Output → State → Type 0
 Effects s (New root fields guard style) events answer t = IsOneReply (λ reply. AnswersNew s root fields guard style events reply t) answer
+Effects s (Run count) events answer t = IsOneReply (λ reply. RunsFinals s count events reply t) answer
 Effects s Minor events answer t = IsOneReply (λ reply. Collects s MinorKind events reply t) answer
 Effects s Gc events answer t = IsOneReply (λ reply. Collects s Full events reply t) answer
 Effects s Major events answer t = IsOneReply (λ reply. AnswersMajor s events reply t) answer
 Effects s Finish events answer t = IsOneReply (λ reply. AnswersFinish s events reply t) answer
+Effects s Dump events answer t = (events ≡ []) × Dumps s answer t
+Effects s (Peek object) events answer t = (events ≡ []) × Peeks s object answer t
+Effects s Exit events answer t = IsOneReply (λ reply. AnswersExit s events reply t) answer
 Effects s command events answer t = (events ≡ []) × IsOneReply (λ reply. Replies s command reply t) answer
 
 -- the outputs are lawful for the command in the state s: its events and then its answer, and t is the state after them

@@ -4,6 +4,7 @@ use Rattle.std.specs.List.{IsDistinct}
 use Rattle.std.specs.Set.{is_member}
 use Rattle.std.specs.FinMap.{get}
 use Rattle.space_model.specs.declared.command.Command.{Command}
+use Rattle.space_model.specs.declared.command.Command.TheVariants.{Exit}
 use Rattle.space_model.specs.declared.command.Input.{Input}
 use Rattle.space_model.specs.declared.command.Operand.TheVariants.{Word}
 use Rattle.space_model.specs.declared.event.Event.{Event}
@@ -258,10 +259,11 @@ VisibleIsReached = (s : State) (name : ℕ) → VisibleReach s name → Reach s 
 abbrev pub ReachedIsVisible : Type 0
 ReachedIsVisible = (s : State) → Sound s → (name : ℕ) → Reach s name → VisibleReach s name
 
--- what a path leads to from a root that a line can name, or from a stack word, in a sound state, is present after any lawful command
+-- what a path leads to from a root that a line can name, or from a stack word, in a sound state, is present after any lawful command but
+-- `exit`
 abbrev pub ReachedStay : Type 0
 ReachedStay =
-    (s t : State) (command : Command) (outputs : List Output) → Lawful s command outputs t → Sound s →
+    (s t : State) (command : Command) (outputs : List Output) → command ≢ Exit → Lawful s command outputs t → Sound s →
     (name : ℕ) → VisibleReach s name → is_present t name ≡ true
 
 -- what is present before and after a lawful command, in a sound state, stands where it stood

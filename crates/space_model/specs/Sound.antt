@@ -1,6 +1,6 @@
 -- What holds of every state that a trace leads to, in each phase: the opening is sound, and each lawful command that a line can give
 -- keeps it so.
-use Rattle.std.specs.Prelude.{◌≡◌, ◌≢◌, ℕ, ◌<◌, ◌≤◌, true, false, List, [], ◌∷◌, length, nat_eq, None, Some, Option, is_some, slice_get}
+use Rattle.std.specs.Prelude.{◌≡◌, ◌≢◌, ◌⊎◌, ℕ, ◌<◌, ◌≤◌, true, false, List, [], ◌∷◌, length, nat_eq, None, Some, Option, is_some, slice_get}
 use Rattle.std.specs.List.{AllPairs, IsDistinct}
 use Rattle.std.specs.Ordering.{nat_cmp}
 use Rattle.std.specs.Set.{is_member}
@@ -10,6 +10,7 @@ use Rattle.space_model.specs.declared.phase.Phase.TheVariants.{Marking, Sweeping
 use Rattle.space_model.specs.declared.value.Value.{Value}
 use Rattle.space_model.specs.declared.value.Value.TheVariants.{Nil, Small, Name}
 use Rattle.space_model.specs.Ages.{is_protected}
+use Rattle.space_model.specs.Finalizers.{pair_names}
 use Rattle.space_model.specs.Graph.{Item, item_of, IsChild}
 use Rattle.space_model.specs.Idents.{IsIdent}
 use Rattle.space_model.specs.Layout.{most_fields, page_of}
@@ -97,6 +98,21 @@ pub record SoundIds (graph : List Item) (ids : List ℕ) : Type 0 where
   pub allocated : (name : ℕ) → is_member nat_eq ids name ≡ true → (0 < name) × (name ≤ length graph)
   pub once : IsDistinct nat_eq ids
 
+-- a name with finalizers is present, or its corpse isn't swept yet
+abbrev pub SoundFinals : FinMap nat_cmp ℕ → FinMap nat_cmp ℕ → List (ℕ × List ℕ) → Type 0
+SoundFinals place corpses finals =
+    (name : ℕ) → is_member nat_eq (pair_names finals) name ≡ true → (is_some (get place name) ≡ true) ⊎ (is_some (get corpses name) ≡ true)
+
+-- the name was allocated, and is gone and swept
+pub record IsSweptName (graph : List Item) (place corpses : FinMap nat_cmp ℕ) (name : ℕ) : Type 0 where
+  pub allocated : (0 < name) × (name ≤ length graph)
+  pub gone : get place name ≡ None
+  pub freed : get corpses name ≡ None
+
+-- names whose finalizers wait to run are gone and swept
+abbrev pub SoundQueue : List Item → FinMap nat_cmp ℕ → FinMap nat_cmp ℕ → List (ℕ × List ℕ) → Type 0
+SoundQueue graph place corpses queue = (name : ℕ) → is_member nat_eq (pair_names queue) name ≡ true → IsSweptName graph place corpses name
+
 -- the key and the value of each entry are present, and no two entries belong to the same map and key
 abbrev pub AreSoundEntries : FinMap nat_cmp ℕ → List WeakEntry → Type 0
 AreSoundEntries place [] = Unit {0}
@@ -154,6 +170,8 @@ pub record Sound (s : State) : Type 0 where
   pub kept : SoundKept s.graph s.heap.place s.collector.kept
   pub ids : SoundIds s.graph s.tables.ids
   pub weak : AreSoundEntries s.heap.place s.tables.weak
+  pub finals : SoundFinals s.heap.place s.heap.corpses s.tables.finals
+  pub queue : SoundQueue s.graph s.heap.place s.heap.corpses s.tables.queue
   pub items : AreSoundItems s.graph
   pub roots : AreSoundRoots s.roots
   pub outlived : length s.collector.outlived ≡ length s.graph

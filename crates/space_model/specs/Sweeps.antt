@@ -7,6 +7,7 @@ use Rattle.space_model.specs.declared.phase.Phase.{Phase}
 use Rattle.space_model.specs.declared.phase.Phase.TheVariants.{Idle, Sweeping}
 use Rattle.space_model.specs.declared.reply.Reply.{Reply}
 use Rattle.space_model.specs.declared.reply.Reply.TheVariants.{SweepCount}
+use Rattle.space_model.specs.Finalizers.{without_names, pairs_of_names}
 use Rattle.space_model.specs.Maps.{IsRising, without}
 use Rattle.space_model.specs.Moments.{noted}
 use Rattle.space_model.specs.Pages.{StandsOn, spared}
@@ -22,7 +23,8 @@ pub record AreCorpsesOn (corpses : FinMap nat_cmp ℕ) (page : ℕ) (names : Lis
   pub are : (name : ℕ) → (is_member nat_eq names name ≡ true) ↔ StandsOn corpses page name
   pub rising : IsRising corpses names
 
--- a page was swept, the others still wait, and the corpses that were on it are freed
+-- a page was swept, the others still wait, and the corpses that were on it are freed. Their finalizers go to the end of the queue, in this
+-- order of names, and for each name in order of definition
 abbrev pub swept : State → ℕ → List ℕ → List ℕ → State
 swept s page others freed = record s {
   heap = record s.heap {
@@ -31,6 +33,10 @@ swept s page others freed = record s {
     unswept = others;
   };
   collector = record s.collector { phase = sweep_phase others };
+  tables = record s.tables {
+    finals = without_names s.tables.finals freed;
+    queue = s.tables.queue ++ pairs_of_names s.tables.finals freed;
+  };
   counters = record s.counters { freed = s.counters.freed + length freed };
 }
 

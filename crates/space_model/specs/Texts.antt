@@ -2,18 +2,22 @@
 use Rattle.std.specs.Prelude.{ℕ, Bool, true, false, Option, None, Some, List, [], ◌∷◌, ◌++◌, codes}
 use Rattle.std.specs.List.{flat_map}
 use Rattle.space_model.specs.declared.event.Event.{Event}
-use Rattle.space_model.specs.declared.event.Event.TheVariants.{Gone, Verdict}
+use Rattle.space_model.specs.declared.event.Event.TheVariants.{Gone, Verdict, Ran}
 use Rattle.space_model.specs.declared.event.Kind.{Kind}
 use Rattle.space_model.specs.declared.event.Kind.TheVariants.{Minor, Major, Full as FullKind}
 use Rattle.space_model.specs.declared.reply.Refusal.{Refusal}
 use Rattle.space_model.specs.declared.reply.Refusal.TheVariants.{TooLarge, NoRoot, NoWord, NotObject, NoField, Protected, NoId, NotMarking}
 use Rattle.space_model.specs.declared.reply.Reply.{Reply}
 use Rattle.space_model.specs.declared.stat.Stat.{Stat}
-use Rattle.space_model.specs.declared.reply.Reply.TheVariants.{Made, Full, NoMemory, Done, Pushed, Read, Truth, Number as NumberReply, GoneId, Scanned, Marked, SweepCount, StatLine, Refused}
+use Rattle.space_model.specs.declared.reply.Reply.TheVariants.{Made, Full, NoMemory, Done, Pushed, Read, Truth, Number as NumberReply, GoneId, Removed, RanCount}
+use Rattle.space_model.specs.declared.reply.Reply.TheVariants.{Scanned, Marked, SweepCount, StatLine, Dumped, ExitRan, Refused}
 use Rattle.space_model.specs.declared.value.Value.{Value}
 use Rattle.space_model.specs.declared.value.Value.TheVariants.{Nil, Small, Name}
-use Rattle.space_model.specs.Outputs.{Output, Told, Replied}
-use Rattle.space_model.specs.Spelling.{Piece, Say, Number, Hex, text_of_pieces, IsSpelled}
+use Rattle.space_model.specs.declared.object.Style.{Style}
+use Rattle.space_model.specs.declared.object.Style.TheVariants.{Movable, Keeping}
+use Rattle.space_model.specs.DumpLines.{DumpLine}
+use Rattle.space_model.specs.Outputs.{Output, Told, Listed, Peeked, Replied}
+use Rattle.space_model.specs.Spelling.{Piece, Say, Number, Hex, Called, text_of_pieces, IsSpelled}
 
 -- the word for a kind of verdict
 abbrev pub kind_text : Kind → List ℕ
@@ -25,6 +29,7 @@ kind_text FullKind = codes "full"
 abbrev pub event_pieces : Event → List Piece
 event_pieces (Gone name) = Say (codes "! gone #") ∷ Number name ∷ []
 event_pieces (Verdict kind gone) = Say (codes "! verdict ") ∷ Say (kind_text kind) ∷ Say (codes " ") ∷ Number gone ∷ []
+event_pieces (Ran name label) = Say (codes "! final #") ∷ Number name ∷ Say (codes " ") ∷ Called label ∷ []
 
 -- `nil`, `=` and a small integer, or `#` and a name
 abbrev pub value_pieces : Value → List Piece
@@ -84,15 +89,55 @@ reply_pieces (Read value) = value_pieces value
 reply_pieces (Truth answer) = Say (truth_text answer) ∷ []
 reply_pieces (NumberReply number) = Number number ∷ []
 reply_pieces GoneId = Say (codes "gone") ∷ []
+reply_pieces (Removed count) = Say (codes "removed ") ∷ Number count ∷ []
+reply_pieces (RanCount count) = Say (codes "ran ") ∷ Number count ∷ []
 reply_pieces (Scanned count) = Say (codes "ok scanned ") ∷ Number count ∷ []
 reply_pieces (Marked scanned grey) = Say (codes "scanned ") ∷ Number scanned ∷ Say (codes " grey ") ∷ Number grey ∷ []
 reply_pieces (SweepCount freed left) = Say (codes "freed ") ∷ Number freed ∷ Say (codes " left ") ∷ Number left ∷ []
 reply_pieces (StatLine stat) = Say (codes "stat") ∷ stat_pieces stat
+reply_pieces (Dumped count) = Say (codes "ok dumped ") ∷ Number count ∷ []
+reply_pieces (ExitRan count) = Say (codes "ok ran ") ∷ Number count ∷ []
 reply_pieces (Refused why) = Say (refusal_text why) ∷ []
+
+-- the words, each behind a space
+abbrev pub stored_pieces : List ℕ → List Piece
+stored_pieces [] = []
+stored_pieces (word ∷ words) = Say (codes " ") ∷ Hex word ∷ stored_pieces words
+
+-- the pieces of the line of an object and its stored words
+abbrev pub peek_pieces : ℕ → List ℕ → List Piece
+peek_pieces address words = Say (codes "at ") ∷ Hex address ∷ stored_pieces words
+
+-- `M` or `K`
+abbrev pub style_text : Style → List ℕ
+style_text Movable = codes "M"
+style_text Keeping = codes "K"
+
+-- the addresses, each in quotes, with commas between, and then the rest
+abbrev pub reference_pieces : List ℕ → List Piece → List Piece
+reference_pieces [] rest = rest
+reference_pieces (address ∷ []) rest = Say (codes "\"") ∷ Hex address ∷ Say (codes "\"") ∷ rest
+reference_pieces (address ∷ next ∷ others) rest = Say (codes "\"") ∷ Hex address ∷ Say (codes "\",") ∷ reference_pieces (next ∷ others) rest
+
+-- the pieces of a line of a dump: a JSON object, without spaces
+abbrev pub dump_pieces : DumpLine → List Piece
+dump_pieces line =
+    Say (codes "{\"address\":\"") ∷ Hex line.address
+    ∷ Say (codes "\",\"fields\":") ∷ Number line.fields
+    ∷ Say (
+    codes ",\"flags\":{\"old\":" ++ truth_text line.old
+    ++ codes ",\"style\":\"" ++ style_text line.style
+    ++ codes "\",\"wb_protected\":" ++ truth_text line.wb_protected
+    ++ codes "},\"name\":"
+    ) ∷ Number line.name
+    ∷ Say (codes ",\"references\":[")
+    ∷ reference_pieces line.references (Say (codes "],\"slot_size\":") ∷ Number line.slot_size ∷ Say (codes ",\"type\":\"OBJECT\"}") ∷ [])
 
 -- the pieces of the line of an output
 abbrev pub output_pieces : Output → List Piece
 output_pieces (Told event) = event_pieces event
+output_pieces (Listed line) = dump_pieces line
+output_pieces (Peeked address words) = peek_pieces address words
 output_pieces (Replied reply) = reply_pieces reply
 
 -- a line, with its LF

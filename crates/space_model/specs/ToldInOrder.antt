@@ -4,7 +4,7 @@ use Rattle.std.specs.Ordering.{nat_cmp}
 use Rattle.std.specs.FinMap.{FinMap}
 use Rattle.space_model.specs.declared.event.Event.TheVariants.{Gone, Verdict}
 use Rattle.space_model.specs.Maps.{IsRising}
-use Rattle.space_model.specs.Outputs.{Output, Told, Replied}
+use Rattle.space_model.specs.Outputs.{Output, Told}
 
 -- each verdict comes after the names that it takes, in ascending order of the addresses that they have then, and tells how many they are.
 -- The map has the addresses before the outputs; `names` were told since the verdict before
@@ -12,4 +12,4 @@ abbrev pub AreToldInOrder : FinMap nat_cmp ℕ → List ℕ → List Output → 
 AreToldInOrder place names [] = names ≡ []
 AreToldInOrder place names (Told (Gone name) ∷ outputs) = AreToldInOrder place (names ++ name ∷ []) outputs
 AreToldInOrder place names (Told (Verdict kind gone) ∷ outputs) = IsRising place names × (gone ≡ length names) × AreToldInOrder place [] outputs
-AreToldInOrder place names (Replied reply ∷ outputs) = AreToldInOrder place names outputs
+AreToldInOrder place names (_ ∷ outputs) = AreToldInOrder place names outputs

@@ -112,6 +112,19 @@ pub enum Command {
         weak: Ident,
         key: Operand,
     },
+    /// Defines a finalizer of the object, which is a label (`ObjectSpace.define_finalizer` of CRuby 3.3).
+    Final {
+        object: Operand,
+        label: Ident,
+    },
+    /// Takes all finalizers of the object away (`ObjectSpace.undefine_finalizer` of CRuby 3.3); tells how many they were.
+    Unfinal {
+        object: Operand,
+    },
+    /// Runs so many finalizers of objects that are gone and swept, or all where fewer wait.
+    Run {
+        count: u64,
+    },
     /// A minor collection: young objects go that no root, no stack word, no old object and no object that is kept leads to.
     Minor,
     /// A whole collection: what no root and no stack word leads to goes (`GC.start` of CRuby 3.3).
@@ -130,4 +143,12 @@ pub enum Command {
     },
     /// Tells the counts of the space.
     Stat,
+    /// Lists the objects that aren't gone, each by a line of JSON (`ObjectSpace.dump_all` of CRuby 3.3).
+    Dump,
+    /// Tells where the object stands, and the words of its fields as they are stored.
+    Peek {
+        object: Operand,
+    },
+    /// Ends all that the trace made: roots and stack words go, then all objects, and every finalizer runs. The space stays.
+    Exit,
 }

@@ -1,4 +1,5 @@
 // What happens in a command before it is answered.
+use crate::Ident;
 
 /// Which verdict ends a marking.
 #[derive(Clone, Copy, Debug, PartialEq, Eq)]
@@ -12,10 +13,12 @@ pub enum Kind {
 }
 
 /// A line that is written before the reply of a command.
-#[derive(Clone, Copy, Debug, PartialEq, Eq)]
+#[derive(Clone, Copy, PartialEq, Eq)]
 pub enum Event {
     /// The object with this name is gone.
     Gone { name: u64 },
     /// A verdict was given, and this many objects are gone by it.
     Verdict { kind: Kind, gone: u64 },
+    /// The finalizer of the object with this name ran that was defined with this label.
+    Ran { name: u64, label: Ident },
 }

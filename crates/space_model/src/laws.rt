@@ -4,6 +4,7 @@ ghost use Rattle.space_model.specs.Laws.{OpeningIsSound, LawfulIsSound, LawfulAl
 ghost use Rattle.space_model.specs.Laws.{StartMarkIsSound, TookIsSound, Sweep1IsSound, SweepsAreSound, SweepAllEnds, SweepsAreCounted, SweepIsThere, CompletesIsSound};
 ghost use Rattle.space_model.specs.Laws.{StatIsThere, CountsAreOne};
 ghost use Rattle.space_model.specs.TableLaws.{IdsStay, IdsAreOne, EntriesGoWithObjects, SetIsRead, DeletedIsGone, SizeIsOfKeys};
+ghost use Rattle.space_model.specs.FinalLaws.{FinalsRunOnce, QueueStays, FinalsRunOfSwept, ExitLeavesNothing, ExitIsThere, DumpIsThere, DumpIsOne};
 ghost use Rattle.space_model.specs.Laws.{SeenAreReached, VerdictsReachNoMore, ReachedOutliveVerdicts, FullLeavesReached};
 ghost use Rattle.space_model.specs.Laws.{SweepsKeepPlaces, SweepsKeepReach, CompletesReachNoMore, ReachedOutliveCompletions};
 ghost use Rattle.space_model.specs.Laws.{CollectionScansReached, FullCollectionLeavesReached, CollectionsKeepGraph, GcIsThere, MinorIsThere};
@@ -93,7 +94,7 @@ pub fn full_is_full()
     ensures same { NewMakesNone }
 {}
 
-/// Nothing that a line's root or a stack word leads to goes. What is present before and after a command stands where it stood, so
+/// Nothing that a line's root or a stack word leads to goes, but by `exit`. What is present before and after a command stands where it stood, so
 /// each word that stays on the stack keeps its value. The limit of pages never changes.
 pub fn what_is_reached_stays()
     ensures present { ReachedArePresent }
@@ -127,6 +128,25 @@ pub fn entries_go_with_their_objects()
     ensures set { SetIsRead }
     ensures deleted { DeletedIsGone }
     ensures size { SizeIsOfKeys }
+{}
+
+/// A finalizer runs once at most, in the order of the queue, and only when its object is gone and swept.
+pub fn finalizers_run_once()
+    ensures once { FinalsRunOnce }
+    ensures stays { QueueStays }
+    ensures swept { FinalsRunOfSwept }
+{}
+
+/// Nothing is left after `exit`, every finalizer has run, and where what is under way can be completed there is one.
+pub fn exit_leaves_nothing()
+    ensures leaves { ExitLeavesNothing }
+    ensures possible { ExitIsThere }
+{}
+
+/// There is one dump of all lines.
+pub fn dumps_are_one()
+    ensures possible { DumpIsThere }
+    ensures one { DumpIsOne }
 {}
 
 /// After a push the top of the stack has the value that was pushed.

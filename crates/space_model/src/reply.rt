@@ -44,6 +44,10 @@ pub enum Reply {
     Number { number: u64 },
     /// The object that has the id is gone.
     GoneId,
+    /// So many finalizers were taken away.
+    Removed { count: u64 },
+    /// So many finalizers ran.
+    RanCount { count: u64 },
     /// A marking was done, or ended, with so many scans: each reads the fields of one object.
     Scanned { count: u64 },
     /// A major marking made so many scans more, and so many objects that it has marked wait for theirs.
@@ -52,6 +56,10 @@ pub enum Reply {
     SweepCount { freed: u64, left: u32 },
     /// The counts of the space.
     StatLine { stat: Stat },
+    /// So many objects were listed.
+    Dumped { count: u64 },
+    /// Nothing is left of what the trace made, and so many finalizers ran.
+    ExitRan { count: u64 },
     /// The command was refused, and nothing was changed.
     Refused { why: Refusal },
 }

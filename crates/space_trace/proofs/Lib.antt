@@ -7,3 +7,4 @@ pub mod PieceLemmas
 pub mod SpellingLemmas
 pub mod ReadingLemmas
 mod StatLemmas
+pub mod StoredLemmas

@@ -8,7 +8,7 @@ use Rattle.std.specs.Str.Parse.{digits_value}
 use Rattle.space_model.specs.declared.command.Command.{Command}
 use Rattle.space_model.specs.declared.command.Command.TheVariants.{New, Set, DropRoot, Push, Raw, Pop, Store, RawStore, Load, Same, Unprotect}
 use Rattle.space_model.specs.declared.command.Command.TheVariants.{Id, ById, WeakSet, WeakGet, WeakKey, WeakSize, WeakDelete}
-use Rattle.space_model.specs.declared.command.Command.TheVariants.{Minor, Gc, Major, Mark, Finish, Sweep, Stat}
+use Rattle.space_model.specs.declared.command.Command.TheVariants.{Final, Unfinal, Run, Minor, Gc, Major, Mark, Finish, Sweep, Stat, Dump, Peek, Exit}
 use Rattle.space_model.specs.declared.command.Input.{Input}
 use Rattle.space_model.specs.declared.command.Input.TheVariants.{From, Nil, Small}
 use Rattle.space_model.specs.declared.command.Operand.{Operand}
@@ -106,6 +106,22 @@ abbrev weak_delete_of : List (List ℕ) → Option Command
 weak_delete_of (weak ∷ key ∷ rest) = Some (WeakDelete weak (operand_of key))
 weak_delete_of _ = None
 
+abbrev final_of : List (List ℕ) → Option Command
+final_of (object ∷ label ∷ rest) = Some (Final (operand_of object) label)
+final_of _ = None
+
+abbrev unfinal_of : List (List ℕ) → Option Command
+unfinal_of (object ∷ rest) = Some (Unfinal (operand_of object))
+unfinal_of _ = None
+
+abbrev run_of : List (List ℕ) → Option Command
+run_of (count ∷ rest) = Some (Run (digits_value 10 count))
+run_of _ = None
+
+abbrev peek_of : List (List ℕ) → Option Command
+peek_of (object ∷ rest) = Some (Peek (operand_of object))
+peek_of _ = None
+
 abbrev mark_of : List (List ℕ) → Option Command
 mark_of (count ∷ rest) = Some (Mark (digits_value 10 count))
 mark_of _ = None
@@ -134,6 +150,9 @@ form_of name words =
     else if bytes_eq name (codes "wkey") then weak_key_of words
     else if bytes_eq name (codes "wsize") then weak_size_of words
     else if bytes_eq name (codes "wdel") then weak_delete_of words
+    else if bytes_eq name (codes "final") then final_of words
+    else if bytes_eq name (codes "unfinal") then unfinal_of words
+    else if bytes_eq name (codes "run") then run_of words
     else if bytes_eq name (codes "minor") then Some Minor
     else if bytes_eq name (codes "gc") then Some Gc
     else if bytes_eq name (codes "major") then Some Major
@@ -141,6 +160,9 @@ form_of name words =
     else if bytes_eq name (codes "finish") then Some Finish
     else if bytes_eq name (codes "sweep") then sweep_of words
     else if bytes_eq name (codes "stat") then Some Stat
+    else if bytes_eq name (codes "dump") then Some Dump
+    else if bytes_eq name (codes "peek") then peek_of words
+    else if bytes_eq name (codes "exit") then Some Exit
     else None
 
 abbrev command_of : List (List ℕ) → Option Command
@@ -210,6 +232,9 @@ command_is words (WeakGet root weak key) (_, _, e, f, (_, _, e1, f1, (_, _, e2, 
 command_is words (WeakKey weak key) (_, _, e, f, (_, _, e1, f1, (a, _, e2, f2, _))) = rw (e, f, e1, e2, f1.0, operand_is a key f2) refl
 command_is words (WeakSize weak) (_, _, e, f, (_, _, e1, f1, _)) = rw (e, f, e1, f1.0) refl
 command_is words (WeakDelete weak key) (_, _, e, f, (_, _, e1, f1, (a, _, e2, f2, _))) = rw (e, f, e1, e2, f1.0, operand_is a key f2) refl
+command_is words (Final object label) (_, _, e, f, (a, _, e1, f1, (_, _, e2, f2, _))) = rw (e, f, e1, e2, operand_is a object f1, f2.0) refl
+command_is words (Unfinal object) (_, _, e, f, (a, _, e1, f1, _)) = rw (e, f, e1, operand_is a object f1) refl
+command_is words (Run count) (_, _, e, f, (_, _, e1, f1, _)) = rw (e, f, e1, f1.value) refl
 command_is words Minor (_, _, e, f, _) = rw (e, f) refl
 command_is words Gc (_, _, e, f, _) = rw (e, f) refl
 command_is words Major (_, _, e, f, _) = rw (e, f) refl
@@ -217,6 +242,9 @@ command_is words (Mark count) (_, _, e, f, (_, _, e1, f1, _)) = rw (e, f, e1, f1
 command_is words Finish (_, _, e, f, _) = rw (e, f) refl
 command_is words (Sweep count) (_, _, e, f, (_, _, e1, f1, _)) = rw (e, f, e1, f1.value) refl
 command_is words Stat (_, _, e, f, _) = rw (e, f) refl
+command_is words Dump (_, _, e, f, _) = rw (e, f) refl
+command_is words (Peek object) (_, _, e, f, (a, _, e1, f1, _)) = rw (e, f, e1, operand_is a object f1) refl
+command_is words Exit (_, _, e, f, _) = rw (e, f) refl
 
 -- a blank has no words of a command
 comment_is : (words : List (List ℕ)) → command_of (onto_first 59 words) ≡ None

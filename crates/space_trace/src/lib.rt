@@ -3,6 +3,8 @@
 #![tactic(auto)]
 
 mod collection_commands;
+mod dump_commands;
+mod final_commands;
 mod id_commands;
 mod laws;
 mod line_buffer;
@@ -11,6 +13,7 @@ mod marking_commands;
 mod new_command;
 mod object_commands;
 mod operands;
+mod peek_line;
 mod reader;
 mod root_commands;
 mod stack_commands;
@@ -24,4 +27,4 @@ mod writer;
 pub use laws::{readings_are_one, spellings_are_read};
 pub use reader::{Malformed, read_command};
 pub use words::read_number;
-pub use writer::{write_command, write_event, write_malformed, write_reply};
+pub use writer::{write_command, write_event, write_malformed, write_peek, write_reply};

@@ -8,7 +8,7 @@ use crate::line_end::LineEnd;
 use arrayvec::ArrayVec;
 use itoa::Buffer;
 
-/// A line takes no memory: the longest but for that of `stat` has fewer bytes than this.
+/// A line takes no memory: the longest but for those of `stat` and `peek` has fewer bytes than this.
 pub type LineBuffer = ArrayVec<u8, 128>;
 
 /// Puts the text at the end.
@@ -33,8 +33,8 @@ pub fn put_decimal<const N: usize>(line: &mut ArrayVec<u8, N>, number: u64)
 }
 
 /// Puts the number in base 16 at the end, behind `0x`.
-pub fn put_hex(line: &mut LineBuffer, number: u64)
-    requires { array_vec_len line.old ≤ 100 }
+pub fn put_hex<const N: usize>(line: &mut ArrayVec<u8, N>, number: u64)
+    requires { array_vec_len line.old + 18 ≤ N }
     ensures items { line.new.items ≡ line.old.items ++ hex number }
     ensures len { array_vec_len line.new ≤ array_vec_len line.old + 18 }
 {

@@ -5,6 +5,8 @@ ghost use Rattle.space_model.specs.Grammar.{without_cr, IsBlank, IsReading};
 ghost use Rattle.space_trace.specs.WordsLeft.{words_in, ReadsWords};
 
 use crate::collection_commands::{read_gc, read_minor, read_stat, read_sweep};
+use crate::dump_commands::{read_dump, read_exit, read_peek};
+use crate::final_commands::{read_final, read_run, read_unfinal};
 use crate::id_commands::{read_by_id, read_id};
 use crate::marking_commands::{read_finish, read_major, read_mark};
 use crate::new_command::read_new;
@@ -68,6 +70,9 @@ fn command_of_words(name: &[u8], rest: Option<&[u8]>) -> Option<Command>
         _ if name == b"wkey".as_slice() => read_weak_key(rest),
         _ if name == b"wsize".as_slice() => read_weak_size(rest),
         _ if name == b"wdel".as_slice() => read_weak_delete(rest),
+        _ if name == b"final".as_slice() => read_final(rest),
+        _ if name == b"unfinal".as_slice() => read_unfinal(rest),
+        _ if name == b"run".as_slice() => read_run(rest),
         _ if name == b"minor".as_slice() => read_minor(rest),
         _ if name == b"gc".as_slice() => read_gc(rest),
         _ if name == b"major".as_slice() => read_major(rest),
@@ -75,6 +80,9 @@ fn command_of_words(name: &[u8], rest: Option<&[u8]>) -> Option<Command>
         _ if name == b"finish".as_slice() => read_finish(rest),
         _ if name == b"sweep".as_slice() => read_sweep(rest),
         _ if name == b"stat".as_slice() => read_stat(rest),
+        _ if name == b"dump".as_slice() => read_dump(rest),
+        _ if name == b"peek".as_slice() => read_peek(rest),
+        _ if name == b"exit".as_slice() => read_exit(rest),
         _ => None,
     }
 }

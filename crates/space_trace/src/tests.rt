@@ -1,12 +1,12 @@
 // Each form of a line once, with texts that were written by hand.
-use crate::{read_command, write_command, write_event, write_reply};
+use crate::{read_command, write_command, write_event, write_peek, write_reply};
 use space_io::MemorySink;
-use space_model::{Event, Kind, PAGE_BYTES, Refusal, Reply, Stat, Value};
+use space_model::{Event, Ident, Kind, PAGE_BYTES, Refusal, Reply, Stat, Value};
 use std::alloc::{AllocError as NoMemory, Global};
 use std::test::Fail;
 
 // The line, and how its command is spelled.
-const FORMS: [(&[u8], &[u8]); 55] = [
+const FORMS: [(&[u8], &[u8]); 64] = [
     (b"new a 3 P M", b"new a 3 P M\n"),
     (b"new a 79 P M", b"new a 79 P M\n"),
     (
@@ -86,12 +86,24 @@ const FORMS: [(&[u8], &[u8]); 55] = [
         b"sweep 18446744073709551615\n",
     ),
     (b"stat\r", b"stat\n"),
+    (b"final a bye", b"final a bye\n"),
+    (b"final @007 _1", b"final @7 _1\n"),
+    (
+        b"final a2345678901234567890123456789012 b2345678901234567890123456789012",
+        b"final a2345678901234567890123456789012 b2345678901234567890123456789012\n",
+    ),
+    (b"unfinal @0", b"unfinal @0\n"),
+    (b"run 0", b"run 0\n"),
+    (b"run 18446744073709551615", b"run 18446744073709551615\n"),
+    (b"dump", b"dump\n"),
+    (b"peek a", b"peek a\n"),
+    (b"exit\r", b"exit\n"),
 ];
 
 // Lines without a command.
 const BLANK: [&[u8]; 5] = [b"", b"\r", b";", b"; a comment", b";same a b\r"];
 
-const MALFORMED: [&[u8]; 85] = [
+const MALFORMED: [&[u8]; 97] = [
     b" ",
     b" ; a comment",
     b"\r\r",
@@ -177,6 +189,18 @@ const MALFORMED: [&[u8]; 85] = [
     b"sweep 18446744073709551616",
     b"stat 0",
     b"Stat",
+    b"final a",
+    b"final a nil",
+    b"final a @0",
+    b"final a b c",
+    b"unfinal",
+    b"unfinal nil",
+    b"run",
+    b"run  1",
+    b"dump a",
+    b"peek",
+    b"peek a b",
+    b"exit 1",
 ];
 
 const EVENTS: [(Event, &[u8]); 4] = [
@@ -234,7 +258,7 @@ const MOST_COUNTS: Stat = Stat {
     total_moved_objects: u64::MAX,
 };
 
-const REPLIES: [(Reply, &[u8]); 32] = [
+const REPLIES: [(Reply, &[u8]); 36] = [
     (
         Reply::Made {
             name: 1,
@@ -296,6 +320,15 @@ const REPLIES: [(Reply, &[u8]); 32] = [
         b"18446744073709551615\n",
     ),
     (Reply::GoneId, b"gone\n"),
+    (Reply::Removed { count: 1 }, b"removed 1\n"),
+    (Reply::RanCount { count: 0 }, b"ran 0\n"),
+    (Reply::Dumped { count: 41 }, b"ok dumped 41\n"),
+    (
+        Reply::ExitRan {
+            count: 18446744073709551615,
+        },
+        b"ok ran 18446744073709551615\n",
+    ),
     (Reply::Scanned { count: 0 }, b"ok scanned 0\n"),
     (
         Reply::Scanned {
@@ -428,6 +461,52 @@ fn outputs_have_their_texts(rt: HostRuntime) -> Result<(), Fail> {
     }
     Ok(())
 }
+
+// Addresses and stored words, and the lines that show them.
+const PEEKS: [(u64, &[u64], &[u8]); 2] = [
+    (
+        65536,
+        &[65576, 0, 15, u64::MAX],
+        b"at 0x10000 0x10028 0x0 0xf 0xffffffffffffffff\n",
+    ),
+    (0, &[], b"at 0x0\n"),
+];
+
+#[test]
+fn stored_words_have_their_texts(rt: HostRuntime) -> Result<(), Fail> {
+    for (address, words, text) in PEEKS {
+        if words.len() > 78 {
+            return Err(Fail::from("too many words"));
+        }
+        let mut sink = small_sink(rt.alloc())?;
+        assert!(rt; write_peek(address, words, &mut sink).is_ok());
+        assert!(rt; sink.bytes() == text);
+    }
+    Ok(())
+}
+
+#[test]
+fn a_finalizer_that_ran_has_its_text(rt: HostRuntime) -> Result<(), Fail> {
+    for (text, line) in LABELS {
+        let Some(label) = Ident::read(text) else {
+            return Err(Fail::from("no label"));
+        };
+        let name = u64::MAX;
+        let mut sink = small_sink(rt.alloc())?;
+        assert!(rt; write_event(&Event::Ran { name, label }, &mut sink).is_ok());
+        assert!(rt; sink.bytes() == line);
+    }
+    Ok(())
+}
+
+// Labels, and the lines of finalizers that ran.
+const LABELS: [(&[u8], &[u8]); 2] = [
+    (
+        b"a2345678901234567890123456789012",
+        b"! final #18446744073709551615 a2345678901234567890123456789012\n",
+    ),
+    (b"_", b"! final #18446744073709551615 _\n"),
+];
 
 #[test]
 fn an_output_is_one_piece(rt: HostRuntime) -> Result<(), Fail> {

@@ -6,16 +6,20 @@ ghost use Rattle.space_io.specs.Causes.{HasCause};
 ghost use Rattle.space_io.specs.Sinks.{AppendsPrefix, AppendsPart};
 ghost use Rattle.space_model.specs.CommandTexts.{command_pieces};
 ghost use Rattle.space_model.specs.Spelling.{text_of_pieces, IsSpelled};
-ghost use Rattle.space_model.specs.Texts.{kind_text, event_pieces, value_pieces, refusal_text, truth_text, named_pieces, reply_pieces, malformed_pieces, line_of_pieces};
+ghost use Rattle.space_model.specs.Texts.{kind_text, event_pieces, value_pieces, refusal_text, truth_text, named_pieces, reply_pieces, peek_pieces, malformed_pieces, line_of_pieces};
+ghost use Rattle.space_model.specs.Layout.{most_fields};
 ghost use Rattle.space_trace.specs.StatReplies.{is_stat};
 
 use crate::collection_commands::{put_gc, put_minor, put_stat_command, put_sweep};
+use crate::dump_commands::{put_dump, put_exit, put_peek_command};
+use crate::final_commands::{put_final, put_run, put_unfinal};
 use crate::id_commands::{put_by_id, put_id};
 use crate::line_buffer::LineBuffer;
 use crate::line_end::LineEnd;
 use crate::marking_commands::{put_finish, put_major, put_mark};
 use crate::new_command::put_new;
 use crate::object_commands::{put_raw_store, put_same, put_store, put_unprotect};
+use crate::peek_line::{PeekBuffer, put_peek};
 use crate::root_commands::{put_drop, put_load, put_set};
 use crate::stack_commands::{put_pop, put_push, put_raw};
 use crate::stat_line::{StatBuffer, put_stat};
@@ -71,6 +75,9 @@ fn put_command(line: &mut LineBuffer, command: Command)
         Command::WeakKey { weak, key } => put_weak_key(line, weak, key),
         Command::WeakSize { weak } => put_weak_size(line, weak),
         Command::WeakDelete { weak, key } => put_weak_delete(line, weak, key),
+        Command::Final { object, label } => put_final(line, object, label),
+        Command::Unfinal { object } => put_unfinal(line, object),
+        Command::Run { count } => put_run(line, count),
         Command::Minor => put_minor(line),
         Command::Gc => put_gc(line),
         Command::Major => put_major(line),
@@ -78,10 +85,13 @@ fn put_command(line: &mut LineBuffer, command: Command)
         Command::Finish => put_finish(line),
         Command::Sweep { count } => put_sweep(line, count),
         Command::Stat => put_stat_command(line),
+        Command::Dump => put_dump(line),
+        Command::Peek { object } => put_peek_command(line, object),
+        Command::Exit => put_exit(line),
     }
 }
 
-// Writes the line of a command or of the counts, and its LF, as one piece.
+// Writes the line of a command, of the counts or of stored words, and its LF, as one piece.
 fn write_line<K: Sink, const N: usize>(
     line: &mut ArrayVec<u8, N>,
     sink: &mut K,
@@ -147,6 +157,12 @@ fn put_event(line: &mut LineEnd, event: Event)
             line.put(b" ");
             line.put(kind_bytes(kind));
             line.put(b"! verdict ");
+        }
+        Event::Ran { name, label } => {
+            line.put(label.bytes());
+            line.put(b" ");
+            line.put_decimal(name);
+            line.put(b"! final #");
         }
     }
 }
@@ -236,6 +252,14 @@ fn put_reply(line: &mut LineEnd, reply: &Reply)
         Reply::Truth { yes } => line.put(truth_bytes(*yes)),
         Reply::Number { number } => line.put_decimal(*number),
         Reply::GoneId => line.put(b"gone"),
+        Reply::Removed { count } => {
+            line.put_decimal(*count);
+            line.put(b"removed ");
+        }
+        Reply::RanCount { count } => {
+            line.put_decimal(*count);
+            line.put(b"ran ");
+        }
         Reply::Scanned { count } => {
             line.put_decimal(*count);
             line.put(b"ok scanned ");
@@ -253,6 +277,14 @@ fn put_reply(line: &mut LineEnd, reply: &Reply)
             line.put(b"freed ");
         }
         Reply::StatLine { .. } => unreachable!(),
+        Reply::Dumped { count } => {
+            line.put_decimal(*count);
+            line.put(b"ok dumped ");
+        }
+        Reply::ExitRan { count } => {
+            line.put_decimal(*count);
+            line.put(b"ok ran ");
+        }
         Reply::Refused { why } => line.put(refusal_bytes(*why)),
     }
 }
@@ -319,6 +351,20 @@ pub fn write_reply<K: Sink>(reply: &Reply, sink: &mut K) -> Result<(), WriteFaul
         Reply::StatLine { stat } => write_stat(stat, sink),
         _ => write_short(reply, sink),
     }
+}
+
+/// Writes the line of an object that stands at the address, with its stored words. At an `Err` only a prefix of it was written, maybe
+/// none.
+pub fn write_peek<K: Sink>(address: u64, words: &[u64], sink: &mut K) -> Result<(), WriteFault>
+    requires { length words.now ≤ most_fields }
+    ensures bytes { OnOk result (Appends (K.written sink.old) (K.written sink.new) (line_of_pieces (peek_pieces address words.now))) }
+    ensures prefix { AppendsPrefix (K.written sink.old) (K.written sink.new) (line_of_pieces (peek_pieces address words.now)) }
+    ensures part { OnErr result (AppendsPart (K.written sink.old) (K.written sink.new) (line_of_pieces (peek_pieces address words.now))) }
+    ensures cause { HasCause (K.faults sink.old) (K.faults sink.new) result }
+{
+    let mut line = PeekBuffer::new();
+    put_peek(&mut line, address, words);
+    write_line(&mut line, sink)
 }
 
 /// Writes that the line with this number is malformed or too long. At an `Err` only a prefix of it was written, maybe none.

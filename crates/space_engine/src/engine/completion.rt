@@ -57,10 +57,10 @@ impl Engine {
     ) -> Result<Collected, WriteFault>
         requires able { CanCompleteAndCollect self.old.heap }
         requires steps { steps.old < 2 ^ 62 }
-        ensures done { IfOk result (λ ended. AreTold (IsHeapCompletion self.old.heap self.new.heap (root_words self.old.roots) self.old.stack ended.scans) ended.gone (K.written sink.old) (K.written sink.new)) }
-        ensures fault { OnErr result (AreCut (λ events. (scans : ℕ) × IsHeapCompletion self.old.heap self.new.heap (root_words self.old.roots) self.old.stack scans events) (K.written sink.old) (K.written sink.new)) }
+        ensures done { IfOk result (λ ended. AreTold (IsHeapCompletion self.old.heap self.old.finals self.new.heap self.new.finals (root_words self.old.roots) self.old.stack ended.scans) ended.gone (K.written sink.old) (K.written sink.new)) }
+        ensures fault { OnErr result (AreCut (λ events. (scans : ℕ) × IsHeapCompletion self.old.heap self.old.finals self.new.heap self.new.finals (root_words self.old.roots) self.old.stack scans events) (K.written sink.old) (K.written sink.new)) }
         ensures cause { HasCause (K.faults sink.old) (K.faults sink.new) result }
-        ensures rest { self.new ≡ with_completed self.old self.new.heap }
+        ensures rest { self.new ≡ with_completed self.old self.new.heap self.new.finals }
         ensures idle { self.new.heap.phase ≡ Idle }
         ensures judged { HasJudged 0 1 most_slots self.old.heap self.new.heap }
         ensures few { IfOk result (λ ended. ended.gone ≤ most_slots) }
@@ -72,7 +72,7 @@ impl Engine {
         } else {
             Ok(Collected { scans: 0, gone: 0 })
         };
-        sweep_all(&mut self.heap);
+        sweep_all(&mut self.heap, &mut self.finals);
         ended
     }
 }

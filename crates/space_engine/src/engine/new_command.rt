@@ -72,7 +72,7 @@ impl Engine {
         ensures failed { OnErr result (IsSwept self.old self.new (pool_of_fields fields)) }
         ensures work { IsWork 1 self.old.heap self.new.heap }
     {
-        sweep_until_free(&mut self.heap, fields);
+        sweep_until_free(&mut self.heap, &mut self.finals, fields);
         let made = self.heap.allocate(fields, guard, style)?;
         self.hold(root, made.address);
         Ok(made)

@@ -52,11 +52,20 @@ impl Engine {
             Command::WeakKey { weak, key } => self.weak_key(weak, key),
             Command::WeakSize { weak } => self.weak_size(weak),
             Command::WeakDelete { weak, key } => self.weak_delete(weak, key),
+            Command::Final { object, label } => self.define_final(object, label),
+            Command::Unfinal { object } => self.take_finals(object),
             Command::Mark { count } => self.mark(*count, steps),
             Command::Sweep { count } => self.sweep(*count),
             Command::Stat => self.stat(),
-            Command::New { .. } | Command::Minor | Command::Gc | Command::Major | Command::Finish =>
-                unreachable!(),
+            Command::New { .. }
+            | Command::Run { .. }
+            | Command::Minor
+            | Command::Gc
+            | Command::Major
+            | Command::Finish
+            | Command::Dump
+            | Command::Peek { .. }
+            | Command::Exit => unreachable!(),
         }
     }
 }

@@ -19,7 +19,7 @@ impl Engine {
         ensures answers { (s : State) → Holds self.old s → Answers s self.new (Sweep count) result }
         ensures turn { IsOneTurn self.old.heap self.new.heap }
     {
-        let freed = sweep_pages(&mut self.heap, count);
+        let freed = sweep_pages(&mut self.heap, &mut self.finals, count);
         let left = unswept(&self.heap);
         Reply::SweepCount { freed, left }
     }

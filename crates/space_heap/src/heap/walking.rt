@@ -3,7 +3,7 @@ ghost use Rattle.std.specs.Prelude.{◌≡◌, ◌<◌, ◌≤◌, ◌+◌, ℕ,
 ghost use Rattle.space_model.specs.Layout.{page_of};
 ghost use Rattle.space_heap.specs.HeapView.{HeapView};
 ghost use Rattle.space_heap.specs.SoundHeap.{IsSoundHeap};
-ghost use Rattle.space_heap.specs.Walks.{HasNoneFrom, HasNoneOn, IsFound, IsFoundOn, HasNoObjectFrom, IsNextObject, HasNoGoneFrom, IsFoundGone, HasNoMinorScanFrom, IsNextMinorScan, HasNoFinishScanFrom, IsNextFinishScan, is_sought, StartsFrom, IsWalkFrom, IsFurther};
+ghost use Rattle.space_heap.specs.Walks.{HasNoneFrom, HasNoneOn, IsFound, IsFoundOn, HasNoObjectFrom, IsNextObject, HasNoGoneFrom, IsFoundGone, HasNoGoneOn, IsFoundGoneOn, HasNoMinorScanFrom, IsNextMinorScan, HasNoFinishScanFrom, IsNextFinishScan, is_sought, StartsFrom, IsWalkFrom, IsFurther};
 
 use crate::addresses::first_slot;
 use crate::heap::Heap;
@@ -130,6 +130,15 @@ impl Heap {
             Some(found) => Some(found.address),
             None => None,
         }
+    }
+
+    /// The gone object with the least address not below `from` on a page, or `None` where there is none. The sweep of a page
+    /// frees the slots of these.
+    pub fn next_gone_on(&self, page: u32, from: u64) -> Option<Found>
+        requires { page < length self.now.pages }
+        ensures { MatchOption result (HasNoGoneOn self.now page from) (IsFoundGoneOn self.now page from) }
+    {
+        self.next_on(Sought::Gone, page, from)
     }
 
     /// The gone object with the least address from where the walk has come to, or `None` where there is none. The walk

@@ -13,7 +13,7 @@ pub returns-clause-all_visible : goal.returns-clause-all_visible
 returns-clause-all_visible c = reached_visible
 
 pub returns-clause-stays : goal.returns-clause-stays
-returns-clause-stays c = λ s t command outputs l h name visible. reached_there s t command outputs l h name (visible_reached s name visible)
+returns-clause-stays c = λ s t command outputs other l h name visible. reached_there s t command outputs l h other name (visible_reached s name visible)
 
 pub returns-clause-places : goal.returns-clause-places
 returns-clause-places c = present_stays

@@ -5,7 +5,7 @@ use Rattle.space_heap.specs.HeapView.{HeapView}
 use Rattle.space_heap.specs.SoundHeap.{IsSoundHeap}
 use Rattle.space_collector.specs.PagesSwept.{SweepsUntilFree}
 use Rattle.space_engine.specs.Turns.{CanAnswer, IsOneTurn}
-use Rattle.space_engine.specs.Views.{with_heap}
+use Rattle.space_engine.specs.Views.{View, with_swept}
 use Rattle.space_engine.proofs.NewCommand.{too_large, lacks_root, lacks_page, made_at_once}
 use Rattle.space_engine.proofs.NewTurns.{names_after, able_after, turn_late}
 use Rattle.space_engine.proofs.ReservedRoots.{heap_reserved, allocated_at_once, dropped_swept}
@@ -45,13 +45,13 @@ returns-in-Err-NoMemory-clause-done g c =
     let lacks = c.in-Err-NoMemory.ensures in
     let same = heap_reserved a.self.now r a.root.now c.in-Ok.is_new c.in-Ok.ensures.ok in
     let sound = subst IsSoundHeap same lacks.failed.was_sound in
-    let sweeps = subst (λ (heap : HeapView). SweepsUntilFree heap u.heap (pool_for a.fields)) same lacks.failed.sweeps in
-    let back : c.free_root.new.self ≡ with_heap a.self.now u.heap =
+    let sweeps = subst (λ (r : View). SweepsUntilFree r.heap r.finals u.heap u.finals (pool_for a.fields)) c.in-Ok.ensures.ok.becomes lacks.failed.sweeps in
+    let back : c.free_root.new.self ≡ with_swept a.self.now u.heap u.finals =
     dropped_swept a.self.now r a.root.now c.in-Ok.is_new c.in-Ok.ensures.ok u c.free_root.new.self (pool_for a.fields) lacks.failed c.free_root.ensures in
     let needs = lacks.no_memory (ap Err c.in-Err-NoMemory.field-0-is) in
     rw (c.silent-in-Err-NoMemory.ensures.reply, c.silent-in-Err-NoMemory.ensures.gone, back)
-    (answered_silently a.self.now (with_heap a.self.now u.heap) _ _ _ _ _
-    (λ s h. lacks_page a.root.now a.fields a.guard a.style a.self.now s u.heap h c.in-Some.ensures.1 sound lacks.failed.sound sweeps needs)
+    (answered_silently a.self.now (with_swept a.self.now u.heap u.finals) _ _ _ _ _
+    (λ s h. lacks_page a.root.now a.fields a.guard a.style a.self.now s u.heap u.finals h c.in-Some.ensures.1 sound lacks.failed.sound sweeps needs)
     (λ s h. refl))
 
 pub create_at_limit-requires-clause-names : goal.create_at_limit-requires-clause-names

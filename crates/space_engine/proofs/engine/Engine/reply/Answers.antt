@@ -61,3 +61,9 @@ returns-in-WeakSize-clause-answers g c = λ s h. rw c.in-WeakSize.is (c.weak_siz
 
 pub returns-in-WeakDelete-clause-answers : goal.returns-in-WeakDelete-clause-answers
 returns-in-WeakDelete-clause-answers g c = λ s h. rw c.in-WeakDelete.is (c.weak_delete.ensures.answers s h)
+
+pub returns-in-Final-clause-answers : goal.returns-in-Final-clause-answers
+returns-in-Final-clause-answers g c = λ s h. rw c.in-Final.is (c.define_final.ensures.answers s h)
+
+pub returns-in-Unfinal-clause-answers : goal.returns-in-Unfinal-clause-answers
+returns-in-Unfinal-clause-answers g c = λ s h. rw c.in-Unfinal.is (c.take_finals.ensures.answers s h)

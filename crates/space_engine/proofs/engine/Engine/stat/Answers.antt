@@ -13,6 +13,7 @@ returns c =
             stack = c.self.inside.stack;
             ids = c.self.inside.ids;
             weak = c.self.inside.weak;
+            finals = c.self.inside.finals;
           }) s h c.counts_of-stat.ensures.sound
           c.counts_of-stat.result c.counts_of-stat.ensures.counts;
     })

@@ -11,6 +11,7 @@ returns-clause-answers c =
       stack = c.self.inside.stack;
       ids = c.self.inside.ids;
       weak = c.self.inside.weak;
-    }) c.sweep_pages-freed.new.heap
+      finals = c.self.inside.finals;
+    }) c.sweep_pages-freed.new.heap c.sweep_pages-freed.new.finals
     c.sweep_pages-freed.ensures.sound_before c.args.count c.sweep_pages-freed.result c.sweep_pages-freed.ensures.swept c.sweep_pages-freed.ensures.freed
     c.unswept-left.result c.unswept-left.ensures.count)

@@ -10,7 +10,7 @@ returns-clause-oldest c =
     let items = c.self.inside.queue.items in
     let entry = c.in_ok-name.field-0.now in
     let oldest = to_run-oldest
-    (λ labels. labels.items) c.self.inside.ran items entry c.index.result.now c.self.invariant.to_run some first.lookup c.index.ensures in
+    (λ labels. labels.items) c.self.inside.ran items entry c.index.result.now c.self.invariant.stored.to_run some first.lookup c.index.ensures in
     rw (← c.self.view_is) (elim c.if-self-len.branch [
       | then-self-len w ↦
           let all : c.self.inside.ran + 1 ≡ length entry.1.items = search rules in

@@ -1,0 +1,4 @@
+mod HexDigits
+mod SentEvents
+mod CompactLines
+mod LineTexts

@@ -1,0 +1,3 @@
+pub mod HeapLines
+pub mod LineEvents
+pub mod Shown

@@ -1,0 +1,59 @@
+-- `exit`, up to the finalizers that run, from what was done to the heap and what was written: whether a write failed in the completion, in the
+-- lines of the verdict, or in none of both.
+use Rattle.std.proofs.Common.{◌≡◌, ◌+◌, ◌<◌, ◌^◌, ℕ, List, [], length, map, sym, ap, ◌∙◌, subst, Option, Result, Ok, Err, OnErr}
+use Rattle.std.specs.Prelude.{IfOk, MatchResult}
+use Rattle.std.specs.Io.KnownBytes.{Appends}
+use Rattle.space_io.specs.Causes.{HasCause}
+use Rattle.space_io.specs.Sinks.{AppendsPrefix}
+use Rattle.space_model.specs.declared.event.Event.{Event}
+use Rattle.space_model.specs.declared.event.Kind.TheVariants.{Full}
+use Rattle.space_model.specs.Outputs.{Told}
+use Rattle.space_model.specs.Texts.{text_of}
+use Rattle.space_model.specs.Verdicts.{verdict_events}
+use Rattle.space_finals.specs.FinalLists.{FinalLists}
+use Rattle.space_heap.specs.HeapView.{HeapView}
+use Rattle.space_collector.specs.GoneNames.{gone_names}
+use Rattle.space_collector.specs.HeapVerdicts.{IsHeapVerdict}
+use Rattle.space_collector.specs.PagesSwept.{SweepsAll}
+use Rattle.space_engine.specs.HeapCollections.{IsHeapCompletion, IsHeapExit, IsTickedExit, AreTold, AreCut}
+use Rattle.space_engine.proofs.Completing.{exit_done, exit_verdict_cut, exit_completion_cut}
+
+module _ (old : HeapView) (f : FinalLists) (idle : HeapView) (queued : FinalLists) (judged new : HeapView) (g : FinalLists) (roots stack : List ℕ)
+    (scans : ℕ) (verdict : IsHeapVerdict idle judged Full [] [] scans) (few : scans < 2 ^ 27) (sweeps : SweepsAll judged queued new g) where
+  abbrev Completes : ℕ → List Event → Type 0
+  Completes ended events = IsHeapCompletion old f idle queued roots stack ended events
+
+  abbrev told : List ℕ
+  told = text_of (map Told (verdict_events Full (gone_names judged)))
+
+  module _ {T E : Type 0} (scans_of gone_of : T → ℕ) (before middle after : Option (List ℕ)) where
+    pub emptied_done : (ended : Result T E) (result : Result ℕ E) (gone ticks between ticked : ℕ) →
+        IfOk ended (λ e. AreTold (Completes (scans_of e)) (gone_of e) before middle) → IfOk ended (λ e. between ≡ ticks + scans_of e) →
+        gone ≡ length (gone_names judged) → ticked ≡ between + scans → IfOk result (λ total. OnErr ended ⊥) →
+        IfOk result (λ total. IfOk ended (λ e. (total ≡ gone_of e + gone) × Appends middle after told)) →
+        IfOk result (λ total. AreTold (IsTickedExit old f new g roots stack ticks ticked) total before after)
+    emptied_done ended (Err fault) gone ticks between ticked c first many rose failed both = tt
+    emptied_done (Err fault) (Ok total) gone ticks between ticked c first many rose failed both = absurd failed
+    emptied_done (Ok e) (Ok total) gone ticks between ticked c first many rose failed (total_is, written) =
+        subst (λ total. AreTold (IsTickedExit old f new g roots stack ticks ticked) total before after) (sym total_is)
+        (exit_done old f idle queued judged new g roots stack scans verdict few sweeps before middle after (scans_of e) (gone_of e) gone ticks ticked
+        c many written (rose ∙ ap (λ n. n + scans) first))
+
+    pub emptied_cut : (ended : Result T E) (result : Result ℕ E) → IfOk ended (λ e. AreTold (Completes (scans_of e)) (gone_of e) before middle) →
+        OnErr ended (AreCut (λ events. (scans : ℕ) × Completes scans events) before middle) →
+        OnErr result (MatchResult ended (λ e. AppendsPrefix middle after told) (λ fault. after ≡ middle)) →
+        OnErr result (AreCut (λ events. (ended : ℕ) × IsHeapExit old f new g roots stack ended events) before after)
+    emptied_cut ended (Ok total) c cut last = tt
+    emptied_cut (Ok e) (Err fault) c cut prefix =
+        exit_verdict_cut old f idle queued judged new g roots stack scans verdict few sweeps before middle after (scans_of e) (gone_of e) c prefix
+    emptied_cut (Err first) (Err fault) c cut same =
+        exit_completion_cut old f idle queued judged new g roots stack scans verdict few sweeps before after
+        (subst (AreCut (λ events. (scans : ℕ) × Completes scans events) before) (sym same) cut)
+
+-- a write that failed before leaves the faults to it
+pub cause_after : {T E : Type 0} (first middle last : ℕ) (ended : Result T E) (result : Result ℕ E) → HasCause first middle ended →
+    IfOk ended (λ e. HasCause middle last result) → OnErr ended (last ≡ middle) → IfOk result (λ total. OnErr ended ⊥) → HasCause first last result
+cause_after first middle last (Ok e) result before after none failed = subst (λ n. HasCause n last result) before.calm after
+cause_after first middle last (Err fault) (Ok total) before after none failed = absurd failed
+cause_after {T} {E} first middle last (Err fault) (Err same) before after none failed =
+    subst (λ n. HasCause {T = ℕ} {E = E} first n (Err same)) (sym none) (record { later = before.later; calm = tt; failed = before.failed })
