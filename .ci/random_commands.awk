@@ -1,5 +1,5 @@
 # Writes 10,000 random commands of a trace, always the same ones: the numbers are those of Park and Miller's minimal standard generator (1988).
-# What no collection changes is asked for, and nothing else: so of object ids and weak maps only what rests on objects that are reached.
+# What no collection changes is asked for, and nothing else: so of object ids, weak maps and finalizers only what rests on objects that are reached.
 # The last quarter of each thousand makes large objects, until a heap of three pages has no room for one while a marking is under way.
 
 # A number from 0 to n - 1.
@@ -85,9 +85,17 @@ function weak(    pick) {
     else say("wset loose " operand() " " operand())
 }
 
+# Finalizers are defined, and some taken away before their objects go.
+function finalize(    pick) {
+    pick = below(4)
+    if (pick < 3) say("final " operand() " " substr("xyz", below(3) + 1, 1))
+    else say("unfinal " operand())
+}
+
 function mutate(    pick) {
-    pick = below(112)
-    if (pick >= 106) weak()
+    pick = below(116)
+    if (pick >= 112) finalize()
+    else if (pick >= 106) weak()
     else if (pick >= 100) identify()
     else if (pick < 12) make(root(), substr("233338888", below(9) + 1, 1))
     else if (pick < 20) hide()
@@ -103,8 +111,9 @@ function mutate(    pick) {
 }
 
 function collect(    pick) {
-    pick = below(13)
-    if (pick < 2) say("minor")
+    pick = below(14)
+    if (pick >= 13) say("run " below(20))
+    else if (pick < 2) say("minor")
     else if (pick < 3) say("gc")
     else if (pick < 7) say("major")
     else if (pick < 10) say("finish")

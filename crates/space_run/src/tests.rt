@@ -1,7 +1,10 @@
 // `run` on traces in memory, with the answers that its definitions give, written out by hand.
 mod collections;
 mod completion;
+mod dumps;
 mod ends;
+mod exits;
+mod finalizers;
 mod generations;
 mod ids;
 mod marking;
