@@ -83,6 +83,10 @@ pub count-with_slot : (v : HeapView) (a : ℕ) (s : SlotView) → length (with_s
 count-with_slot v a s = by_cases v a s (λ w. length w.pages ≡ length v.pages) (λ _. refl)
     (λ _. length-set v.pages (page_of a) (with_slot_in (page_with v a) (slot_number (page_with v a).pool a) s))
 
+-- and as many slots
+pub slots-with_slot : (v : HeapView) (a : ℕ) (s : SlotView) (k : ℕ) → length (page_at (with_slot v a s) k).slots ≡ length (page_at v k).slots
+slots-with_slot v a s k = by_cases v a s (λ w. length (page_at w k).slots ≡ length (page_at v k).slots) (λ _. refl) (λ _. slots-changed v a s k)
+
 -- slots start where they did
 pub is_slot-with_slot : (v : HeapView) (a : ℕ) (s : SlotView) (b : ℕ) → is_slot (with_slot v a s) b ≡ is_slot v b
 is_slot-with_slot v a s b = by_cases v a s (λ w. is_slot w b ≡ is_slot v b) (λ _. refl) (λ _. is_slot-changed v a s b)

@@ -25,6 +25,8 @@ pub mod MovedLaws
 pub mod TakenLaws
 pub mod FreeLaws
 pub mod PhaseLaws
+pub mod CursorLaws
+pub mod PinLaws
 pub mod SlotAddresses
 pub mod FreedCounts
 pub mod SweptPages
@@ -32,3 +34,6 @@ pub mod WaitingPages
 pub mod GoneLaws
 pub mod ObjectCounts
 pub mod VacantLaws
+pub mod RelocationLaws
+pub mod EndedLaws
+pub mod EndedPools

@@ -25,7 +25,7 @@ slot_from_occupied v a e = ⊎_elim
     (λ none. absurd (true≢false (sym e ∙ ap has_object (slot_at_none v a none))))
     (cases_Bool (is_slot v a))
 
-with_object_none : (v : HeapView) (a : ℕ) (o : ObjectView) → is_occupied v a ≡ false → with_object v a o ≡ v
+pub with_object_none : (v : HeapView) (a : ℕ) (o : ObjectView) → is_occupied v a ≡ false → with_object v a o ≡ v
 unfolding with_object
 with_object_none v a o none = cond-false (is_occupied v a) (with_slot v a (Object o)) v none
 

@@ -34,13 +34,13 @@ page_empty pool slots e = cond-true (list_all is_free slots) no_page (record { p
 pub page_full : (pool : Option ℕ) (slots : List SlotView) → list_all is_free slots ≡ false → page_with_slots pool slots ≡ record { pool = pool; slots = slots }
 page_full pool slots e = cond-false (list_all is_free slots) no_page (record { pool = pool; slots = slots }) e
 
--- a slot of a page after its sweep
-swept_on : (p : PageView) (a : ℕ) → slot_on (swept_page p) a ≡ swept_slot (slot_on p a)
-swept_on p a =
+-- a slot of a page after each of its slots changed, where the page is spare if all are free then
+pub spared_on : (f : SlotView → SlotView) → f Free ≡ Free → (p : PageView) (a : ℕ) → slot_on (page_with_slots p.pool (map f p.slots)) a ≡ f (slot_on p a)
+spared_on f free p a =
     let n : ℕ = slot_number p.pool a in
     let at : Bool = is_start p.pool (length p.slots) a in
-    let slots : List SlotView = map swept_slot p.slots in
-    let read : get_or slots n Free ≡ swept_slot (get_or p.slots n Free) = get_or-map swept_slot p.slots n Free in
+    let slots : List SlotView = map f p.slots in
+    let read : get_or slots n Free ≡ f (get_or p.slots n Free) = ap (get_or slots n) (sym free) ∙ get_or-map f p.slots n Free in
     ⊎_elim
     (λ empty.
     ap (λ q. slot_on q a) (page_empty p.pool slots empty)
@@ -48,18 +48,18 @@ swept_on p a =
     ∙ sym (free_in at (get_or p.slots n Free) (sym read ∙ all_at slots n empty)))
     (λ full.
     ap (λ q. slot_on q a) (page_full p.pool slots full)
-    ∙ ap (λ k. cond (is_start p.pool k a) (get_or slots n Free) Free) (length-map p.slots swept_slot)
+    ∙ ap (λ k. cond (is_start p.pool k a) (get_or slots n Free) Free) (length-map p.slots f)
     ∙ ap (λ s. cond at s Free) read
     ∙ out at (get_or p.slots n Free))
     (cases_Bool (list_all is_free slots))
   where
-    free_in : (at : Bool) (s : SlotView) → swept_slot s ≡ Free → swept_slot (cond at s Free) ≡ Free
+    free_in : (at : Bool) (s : SlotView) → f s ≡ Free → f (cond at s Free) ≡ Free
     free_in true s e = e
-    free_in false s e = refl
+    free_in false s e = free
 
-    out : (at : Bool) (s : SlotView) → cond at (swept_slot s) Free ≡ swept_slot (cond at s Free)
+    out : (at : Bool) (s : SlotView) → cond at (f s) Free ≡ f (cond at s Free)
     out true s = refl
-    out false s = refl
+    out false s = sym free
 
 present_swept : (s : SlotView) → has_present (swept_slot s) ≡ has_present s
 present_swept Free = refl
@@ -150,7 +150,7 @@ module _ (v : HeapView) (page : ℕ) where
       slot_at_on w a
       ∙ ap (λ k. slot_on (page_at w k) a) same
       ∙ ap (λ p. slot_on p a) page_at-swept_same
-      ∙ swept_on (page_at v page) a
+      ∙ spared_on swept_slot refl (page_at v page) a
       ∙ ap (λ k. swept_slot (slot_on (page_at v k) a)) (sym same)
       ∙ ap swept_slot (sym (slot_at_on v a))
 

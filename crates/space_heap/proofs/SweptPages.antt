@@ -134,39 +134,49 @@ module _ (v : HeapView) (page : ℕ) where
       ∙ ap (λ k. get_or (page_with v a).slots k Free) s.2
       ∙ ap (λ k. get_or (page_at v k).slots slot Free) s.1
 
-  -- a page on which an object can be named keeps its pool
-  pub pool_at-swept_kept : (a : ℕ) → page_of a ≡ page → is_object v a ≡ true → pool_at (swept v page) page ≡ pool_at v page
-  unfolding is_object
-  pool_at-swept_kept a on is =
-      let at : is_slot v a ≡ true = slot_from_occupied v a (occupied_from_object v a is) in
+  -- after each slot of the page changed, one isn't free
+  pub some_used : (f : SlotView → SlotView) → f Free ≡ Free → (a : ℕ) → page_of a ≡ page → is_slot v a ≡ true → is_free (f (slot_at v a)) ≡ false
+      → list_all is_free (map f slots) ≡ false
+  some_used f free a on at used =
       let n : ℕ = slot_number (page_with v a).pool a in
       let within : n < length (page_with v a).slots = (start_of v a at).within in
-      let xs : List SlotView = map swept_slot (page_with v a).slots in
-      let its : is_free (get_or xs n Free) ≡ false = ap is_free (get_or-map swept_slot (page_with v a).slots n Free)
-      ∙ used_swept (get_or (page_with v a).slots n Free) (ap has_present (sym (slot_at_some v a at)) ∙ is) in
-      let some : list_all is_free xs ≡ false = list_all_at is_free xs n Free (let l = length-map (page_with v a).slots swept_slot in omega arith) its in
-      pool_at-swept_same v page ∙ cond-false (list_all is_free (map swept_slot slots)) None (pool_at v page)
-      (ap (λ k. list_all is_free (map swept_slot (page_at v k).slots)) (sym on) ∙ some)
+      let xs : List SlotView = map f (page_with v a).slots in
+      let its : is_free (get_or xs n Free) ≡ false = ap is_free (ap (get_or xs n) (sym free) ∙ get_or-map f (page_with v a).slots n Free)
+      ∙ ap (λ s. is_free (f s)) (sym (slot_at_some v a at)) ∙ used in
+      ap (λ k. list_all is_free (map f (page_at v k).slots)) (sym on)
+      ∙ list_all_at is_free xs n Free (let l = length-map (page_with v a).slots f in omega arith) its
 
-  -- and a page on which none can be named, and none was moved away, is spare
-  pub pool_at-swept_spare : IsSoundHeap v → HasNoMoved v → ((a : ℕ) → page_of a ≡ page → is_object v a ≡ false) → pool_at (swept v page) page ≡ None
-  unfolding is_object is_moved
-  pool_at-swept_spare sound still none =
-      let xs : List SlotView = map swept_slot slots in
+  -- or all of them are, and a page without a pool has none
+  pub all_unused : (f : SlotView → SlotView) → f Free ≡ Free → IsSoundHeap v → ((a : ℕ) → page_of a ≡ page → is_free (f (slot_at v a)) ≡ true)
+      → cond (list_all is_free (map f slots)) None (pool_at v page) ≡ None
+  all_unused f free sound unused =
+      let xs : List SlotView = map f slots in
       let each : (pool : ℕ) → pool_at v page ≡ Some pool → (i : ℕ) → i < length xs → is_free (get_or xs i Free) ≡ true = λ pool its i b.
-      let within : i < length slots = let l = length-map slots swept_slot in omega arith in
+      let within : i < length slots = let l = length-map slots f in omega arith in
       let few : i < page_slots pool = let l = sound.long page pool its in omega arith in
       let a : ℕ = slot_address page pool i in
       let on : page_of a ≡ page = (address_start pool page i a (sound.known page pool its) few refl).1 in
-      let read = slot_by_address sound pool i its within in
-      ap is_free (get_or-map swept_slot slots i Free)
-      ∙ free_swept (get_or slots i Free) (ap has_present (sym read) ∙ none a on) (ap has_moved (sym read) ∙ still a) in
-      pool_at-swept_same v page ∙ by_pool (pool_at v page) (list_all is_free xs) (λ pool its. all_free xs (each pool its))
+      ap is_free (ap (get_or xs i) (sym free) ∙ get_or-map f slots i Free)
+      ∙ ap (λ s. is_free (f s)) (sym (slot_by_address sound pool i its within))
+      ∙ unused a on in
+      by_pool (pool_at v page) (list_all is_free xs) (λ pool its. all_free xs (each pool its))
     where
       by_pool : (own : Option ℕ) (b : Bool) → ((pool : ℕ) → own ≡ Some pool → b ≡ true) → cond b None own ≡ None
       by_pool None true h = refl
       by_pool None false h = refl
       by_pool (Some pool) b h = cond-true b None (Some pool) (h pool refl)
+
+  -- a page on which an object can be named keeps its pool
+  pub pool_at-swept_kept : (a : ℕ) → page_of a ≡ page → is_object v a ≡ true → pool_at (swept v page) page ≡ pool_at v page
+  unfolding is_object
+  pool_at-swept_kept a on is = pool_at-swept_same v page ∙ cond-false (list_all is_free (map swept_slot slots)) None (pool_at v page)
+      (some_used swept_slot refl a on (slot_from_occupied v a (occupied_from_object v a is)) (used_swept (slot_at v a) is))
+
+  -- and a page on which none can be named, and none was moved away, is spare
+  pub pool_at-swept_spare : IsSoundHeap v → HasNoMoved v → ((a : ℕ) → page_of a ≡ page → is_object v a ≡ false) → pool_at (swept v page) page ≡ None
+  unfolding is_object is_moved
+  pool_at-swept_spare sound still none = pool_at-swept_same v page
+      ∙ all_unused swept_slot refl sound (λ a on. free_swept (slot_at v a) (none a on) (still a))
 
   -- the pages that wait after the sweep of the first of them
   pub unswept-swept_first : IsSoundHeap v → (others : List ℕ) → v.unswept ≡ page ∷ others → (swept v page).unswept ≡ others

@@ -6,3 +6,4 @@ pub mod Unswept
 pub mod FreeReads
 pub mod SoundViews
 pub mod SlotCounts
+pub mod MovedHere

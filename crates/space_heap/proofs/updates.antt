@@ -8,6 +8,10 @@ pub mod PageAllocations
 pub mod RecolouredSlots
 pub mod NotedSlots
 pub mod UnmarkedSlots
+pub mod PinnedSlots
 pub mod OldMarkedSlots
 pub mod SettledSlots
 pub mod SweptSlots
+pub mod Relocated
+pub mod EndedSlots
+pub mod EndedPages

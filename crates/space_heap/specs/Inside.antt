@@ -9,7 +9,7 @@ use Rattle.space_heap.specs.declared.marks.Marks.{Marks}
 use Rattle.space_heap.specs.declared.heap.Heap.TheInside.{Inside}
 use Rattle.space_heap.specs.Slots.{SlotView}
 use Rattle.space_heap.specs.words.ObjectWords.{AreObjectWords}
-use Rattle.space_heap.specs.HeapView.{PageView, Counters, HeapView, no_counters}
+use Rattle.space_heap.specs.HeapView.{PageView, Counters, HeapView}
 use Rattle.space_heap.specs.planes.MarkPlanes.{marks_at, AreWide, slot_from}
 use Rattle.space_heap.specs.Marking.{IsCoherent}
 
@@ -45,9 +45,15 @@ abbrev pub rest_of : Inside → Rest
 rest_of h = record {
   grey = h.grey.items;
   phase = h.phase;
-  cursor = 0;
-  counters =
-      record no_counters { born = h.born; minor_verdicts = h.minor_verdicts; other_verdicts = h.other_verdicts; freed = h.freed };
+  cursor = h.cursor;
+  counters = record {
+    born = h.born;
+    minor_verdicts = h.minor_verdicts;
+    other_verdicts = h.other_verdicts;
+    freed = h.freed;
+    compactions = h.compactions;
+    moves = h.moves;
+  };
 }
 
 -- the view of these pools and planes, with this rest

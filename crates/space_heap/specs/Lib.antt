@@ -12,5 +12,8 @@ pub mod SoundHeap
 pub mod Sweeping
 pub mod SlotCounts
 pub mod Walks
+pub mod Relocation
+pub mod LastBelow
+pub mod LastMovable
 pub mod Readings
 pub mod Inside

@@ -3,3 +3,5 @@ pub mod MarkPlanes
 pub mod RecolouredMarks
 pub mod SweptPlanes
 pub mod CountedSlots
+pub mod MovedMarks
+pub mod PinnedMarks

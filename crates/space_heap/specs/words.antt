@@ -2,3 +2,4 @@
 pub mod ObjectWords
 pub mod Shown
 pub mod SlotPlaces
+pub mod MovedWords

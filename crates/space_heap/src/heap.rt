@@ -7,6 +7,7 @@ mod allocating;
 mod counting;
 mod generations;
 mod marking;
+mod moving;
 mod reading;
 mod sweeping;
 mod walking;
@@ -34,7 +35,11 @@ pub struct Heap {
     minor_verdicts: u64,
     other_verdicts: u64,
     freed: u64,
+    compactions: u64,
+    moves: u64,
     phase: Phase,
+    // In a compaction that corrects references, the end of the last object that was visited; else 0.
+    cursor: u64,
     // The plane that a formula over a page is computed into.
     working: Plane,
 }
@@ -85,7 +90,10 @@ impl Heap {
             minor_verdicts: 0,
             other_verdicts: 0,
             freed: 0,
+            compactions: 0,
+            moves: 0,
             phase: Phase::Idle,
+            cursor: 0,
             working: Plane::new(alloc, MOST_BITS)?,
         })
     }

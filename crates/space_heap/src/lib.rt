@@ -3,10 +3,13 @@
 
 mod addresses;
 mod colour;
+mod ended_moves;
 mod heap;
 mod mark_stack;
 mod marks;
+mod moves;
 mod object_words;
+mod pins;
 mod slot_allocation;
 mod slot_notes;
 mod sweeps;

@@ -112,7 +112,7 @@ fn is_black(colour: Colour) -> bool
 }
 
 // Writes a bit.
-fn write_bit(plane: &mut Plane, s: u32, bit: bool)
+pub fn write_bit(plane: &mut Plane, s: u32, bit: bool)
     requires { s < length plane.old }
     ensures { plane.new ≡ slice_set plane.old s bit }
 {

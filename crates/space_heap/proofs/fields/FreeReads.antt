@@ -48,7 +48,7 @@ not_true : (b : Bool) → not b ≡ true → b ≡ false
 not_true true e = sym e
 not_true false e = refl
 
-own_pool : (pool : ℕ) → is_pool (Some pool) pool ≡ true
+pub own_pool : (pool : ℕ) → is_pool (Some pool) pool ≡ true
 own_pool pool = grind (arith, nat_tests)
 
 its_pool : (own : Option ℕ) (pool : ℕ) → is_pool own pool ≡ true → own ≡ Some pool
@@ -103,6 +103,9 @@ module _ (v : PoolsView) (ms : List Marks) (rest : Rest) (pool : ℕ) where
 
   pub least_read : (a : ℕ) → IsSoundPools v → pool < 5 → pools.IsLeastFree v pool a → IsLeastFree h pool a
   least_read a sound known l = record { free = free_read a sound known l.free; least = λ other f. l.least other (free_back other f) }
+
+  pub least_back : (a : ℕ) → IsSoundPools v → pool < 5 → IsLeastFree h pool a → pools.IsLeastFree v pool a
+  least_back a sound known l = record { free = free_back a l.free; least = λ other f. l.least other (free_read other sound known f) }
 
   pub none_read : pools.HasNoFree v pool → HasNoFree h pool
   none_read none a = ⊎_elim (λ e. absurd (none a (free_back a e))) (λ e. e) (cases_Bool (is_free_at h pool a))

@@ -2,9 +2,10 @@
 use Rattle.std.proofs.Common.{◌≡◌, ◌≢◌, ⊎_elim, ℕ, zero, suc, ◌+◌, ◌<◌, Bool, true, false, true≢false, not, ◌&&◌, ◌||◌, cond, List, [], ◌∷◌, length, map, set, get_or, replicate, nat_eq, refl, sym, ap, ◌∙◌, subst, arith, Option, None, Some}
 use Rattle.std.specs.Prelude.{is_some, is_none, count_by}
 use Rattle.std.specs.List.{range_with_len, filter, list_all}
+use Rattle.std.proofs.Math.ListN.{get_or-map}
 use Rattle.std.proofs.lemmas.Bool.{cases_Bool, cases_eq, cases_lt, cond-true, cond-false}
 use Rattle.std.proofs.lemmas.Bool.Decides.{nat_tests}
-use Rattle.std.proofs.lemmas.List.{get_or-set_same, get_or-set_other, get_or_past, get_or-map, length-set, length-map, length-replicate}
+use Rattle.std.proofs.lemmas.List.{get_or-set_same, get_or-set_other, get_or_past, length-set, length-replicate}
 use Rattle.std.proofs.lemmas.List.FromFn.{fill_by_all}
 use Rattle.std.proofs.lemmas.List.Folds.{list_all_at}
 use Rattle.space_planes.specs.Planes.{bit, count_set}
@@ -188,7 +189,7 @@ wide_swept_planes m k w = record {
 }
 
 -- whether a slot is free, by what is found there
-free_from : (found : Option (List ℕ)) (m : Marks) (s : ℕ) → is_free (slot_from found m s) ≡ is_none found
+pub free_from : (found : Option (List ℕ)) (m : Marks) (s : ℕ) → is_free (slot_from found m s) ≡ is_none found
 free_from None m s = refl
 free_from (Some words) m s = used (bit m.moved s)
   where
@@ -210,7 +211,7 @@ gone_count p m h = same_counts (λ b. b) has_gone m.gone (page_from p m).slots f
     (λ s _. gone_from (found_in p s) m s (h.each s) ∙ ap has_gone (sym (slot_read p m s)))
 
 -- the planes of a spare page
-spare_marks : AreMarksOf spare_page (clear_marks 0)
+pub spare_marks : AreMarksOf spare_page (clear_marks 0)
 spare_marks = record {
   wide = let e : length (replicate 0 false) ≡ 0 = length-replicate 0 false in
       record { object = e; moved = e; guard = e; marked = e; black = e; age_low = e; age_high = e; remembered = e; kept = e; pinned = e; gone = e };
@@ -226,6 +227,49 @@ spare_marks = record {
 all_free : (xs : List SlotView) → ((i : ℕ) → is_free (get_or xs i Free) ≡ true) → list_all is_free xs ≡ true
 all_free [] h = refl
 all_free (x ∷ xs) h = let first : is_free x ≡ true = h zero in let rest = all_free xs (λ i. h (suc i)) in cc
+
+-- a page is spare where all its slots are free after each changed
+pub page_emptied : (f : SlotView → SlotView) → f Free ≡ Free → (p : PageView) → ((i : ℕ) → is_free (f (get_or p.slots i Free)) ≡ true)
+    → page_with_slots p.pool (map f p.slots) ≡ no_page
+page_emptied f free p each = page_empty p.pool (map f p.slots) (all_free (map f p.slots) (λ i.
+    ap is_free (ap (get_or (map f p.slots) i) (sym free) ∙ get_or-map f p.slots i Free) ∙ each i))
+
+-- a page with a slot that holds an object, or was left by one, has one that isn't free
+pub page_used : (q : PageSlots) (n : Marks) → AreMarksOf q n → (s : ℕ) → (bit n.object s || bit n.moved s) ≡ true
+    → list_all is_free (page_from q n).slots ≡ false
+page_used q n marks s e =
+    let slots : List SlotView = (page_from q n).slots in
+    let used : is_none (found_in q s) ≡ false = something (found_in q s) (bit n.object s) (bit n.moved s) (marks.each s).object (marks.each s).moved e in
+    let its : is_free (get_or slots s Free) ≡ false = ap is_free (slot_read q n s) ∙ free_from (found_in q s) n s ∙ used in
+    list_all_at is_free slots s Free (⊎_elim (λ within. within) (λ past. absurd (true≢false (sym (ap is_free (get_or_past slots s Free past)) ∙ its)))
+    (cases_lt s (length slots))) its
+  where
+    something : (found : Option (List ℕ)) (object moved : Bool) → object ≡ (is_some found && not moved) → (moved ≡ true → is_some found ≡ true)
+        → (object || moved) ≡ true → is_none found ≡ false
+    something None true moved f g e = cc
+    something None false true f g e = let never : false ≡ true = g refl in cc
+    something None false false f g e = cc
+    something (Some words) object moved f g e = refl
+
+-- what is found in a slot of a page after those of a plane became free
+pub found_freed : (v : PoolsView) (page : ℕ) (free plane : List Bool) → ((s : ℕ) → bit free s ≡ (free_at v page s || bit plane s)) → (s : ℕ)
+    → found_in (freed_in (page_at v page) free) s ≡ cond (bit plane s) None (found_in (page_at v page) s)
+found_freed v page free plane bits s = found_in-freed_in p free s ∙ by_found (found_in p s) refl
+  where
+    p : PageSlots
+    p = page_at v page
+
+    same : (a b : Bool) (found : Option (List ℕ)) → a ≡ b → cond a None found ≡ cond b None found
+    same a b found e = ap (λ x. cond x None found) e
+
+    none : (a : Bool) (found : Option (List ℕ)) → found ≡ None → cond a None found ≡ None
+    none true found e = refl
+    none false found e = e
+
+    by_found : (found : Option (List ℕ)) → found_in p s ≡ found → cond (bit free s) None (found_in p s) ≡ cond (bit plane s) None (found_in p s)
+    by_found None e = none (bit free s) (found_in p s) e ∙ sym (none (bit plane s) (found_in p s) e)
+    by_found (Some words) e = same (bit free s) (bit plane s) (found_in p s) (bits s
+        ∙ ap (λ b. b || bit plane s) (not_free_from_used v page s (used_from_found v page s words e)))
 
 -- a page whose objects are all gone, where no slot was left by one, is spare after its sweep
 module _ (v : PoolsView) (ms : List Marks) (page : ℕ) (here : page < length v.pages) (all : AreAllMarks v ms)
@@ -253,12 +297,7 @@ module _ (v : PoolsView) (ms : List Marks) (page : ℕ) (here : page < length v.
       nothing (Some words) false false f e = cc
 
   emptied : swept_page (page_from was its_marks) ≡ no_page
-  emptied =
-      let slots : List SlotView = (page_from was its_marks).slots in
-      page_empty was.pool (map swept_slot slots) (all_free (map swept_slot slots) (λ i. ⊎_elim
-      (λ within. ap is_free (get_or-map swept_slot slots i Free Free within ∙ ap swept_slot (slot_read was its_marks i)) ∙ slot_emptied i)
-      (λ past. ap is_free (get_or_past (map swept_slot slots) i Free (let l = length-map slots swept_slot in omega arith)))
-      (cases_lt i (length slots))))
+  emptied = page_emptied swept_slot refl (page_from was its_marks) (λ i. ap (λ s. is_free (swept_slot s)) (slot_read was its_marks i) ∙ slot_emptied i)
 
   pub swept_empty : SweepsPage v (with_spare_page v page) ms (set ms page (clear_marks 0)) page
   swept_empty = record {
@@ -287,19 +326,7 @@ module _ (v : PoolsView) (ms : List Marks) (page : ℕ) (free : List Bool) (here
   its = all.of_page page
 
   found_left : (s : ℕ) → found_in q s ≡ left (found_in p s) m s
-  found_left s = found_in-freed_in p free s ∙ by_found (found_in p s) refl
-    where
-      same : (a b : Bool) (found : Option (List ℕ)) → a ≡ b → cond a None found ≡ cond b None found
-      same a b found e = ap (λ x. cond x None found) e
-
-      none : (a : Bool) (found : Option (List ℕ)) → found ≡ None → cond a None found ≡ None
-      none true found e = refl
-      none false found e = e
-
-      by_found : (found : Option (List ℕ)) → found_in p s ≡ found → cond (bit free s) None (found_in p s) ≡ cond (bit m.gone s) None (found_in p s)
-      by_found None e = none (bit free s) (found_in p s) e ∙ sym (none (bit m.gone s) (found_in p s) e)
-      by_found (Some words) e = same (bit free s) (bit m.gone s) (found_in p s) (bits s
-          ∙ ap (λ b. b || bit m.gone s) (not_free_from_used v page s (used_from_found v page s words e)))
+  found_left s = found_freed v page free m.gone bits s
 
   marks_freed : AreMarksOf q n
   marks_freed = record {
@@ -312,24 +339,6 @@ module _ (v : PoolsView) (ms : List Marks) (page : ℕ) (free : List Bool) (here
       map_each (slot_in p m) swept_slot (slot_in q n) (λ s. ap (λ f. slot_from f n s) (found_left s) ∙ slot_swept_planes (found_in p s) m s (its.each s))
       (range_with_len 0 (length q.slots))
       ∙ ap (λ k. map swept_slot (map (slot_in p m) (range_with_len 0 k))) (length-freed_in p free)
-
-  -- a slot of the page, by its planes
-  used_here : (s : ℕ) → (bit n.object s || bit n.moved s) ≡ true → is_none (found_in q s) ≡ false
-  used_here s e = something (found_in q s) (bit n.object s) (bit n.moved s) (marks_freed.each s).object (marks_freed.each s).moved e
-    where
-      something : (found : Option (List ℕ)) (object moved : Bool) → object ≡ (is_some found && not moved) → (moved ≡ true → is_some found ≡ true)
-          → (object || moved) ≡ true → is_none found ≡ false
-      something None true moved f g e = cc
-      something None false true f g e = let never : false ≡ true = g refl in cc
-      something None false false f g e = cc
-      something (Some words) object moved f g e = refl
-
-  some_used : (s : ℕ) → (bit n.object s || bit n.moved s) ≡ true → list_all is_free (page_from q n).slots ≡ false
-  some_used s e =
-      let slots : List SlotView = (page_from q n).slots in
-      let its : is_free (get_or slots s Free) ≡ false = ap is_free (slot_read q n s) ∙ free_from (found_in q s) n s ∙ used_here s e in
-      list_all_at is_free slots s Free (⊎_elim (λ within. within) (λ past. absurd (true≢false (sym (ap is_free (get_or_past slots s Free past)) ∙ its)))
-      (cases_lt s (length slots))) its
 
   -- a page that isn't spare after its sweep
   pub swept_full : (s : ℕ) → (is_present m s || bit m.moved s) ≡ true → SweepsPage v (with_freed_page v page free) ms (set ms page n) page
@@ -344,7 +353,7 @@ module _ (v : PoolsView) (ms : List Marks) (page : ℕ) (free : List Bool) (here
       full : swept_page (page_from p m) ≡ page_from q n
       full =
           ap (page_with_slots p.pool) (sym slots_freed)
-          ∙ page_full p.pool (page_from q n).slots (some_used s (ap (λ b. b || bit m.moved s) (object_bit m s (length p.slots) its.wide) ∙ e))
+          ∙ page_full p.pool (page_from q n).slots (page_used q n marks_freed s (ap (λ b. b || bit m.moved s) (object_bit m s (length p.slots) its.wide) ∙ e))
           ∙ (λ i. record { pool = sym (pool_freed p free) i; slots = (page_from q n).slots })
 
 -- the view after the sweep of a page

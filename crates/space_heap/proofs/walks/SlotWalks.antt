@@ -1,9 +1,8 @@
 -- The walk over what stands at addresses, by the planes of each page.
 use Rattle.std.proofs.Common.{◌≡◌, ⊎_elim, ℕ, ◌-◌, ◌/◌, ◌<◌, ◌≤◌, ◌↔◌, Bool, true, false, not, ◌&&◌, ◌||◌, nat_le, refl, List, length, get_or, sym, ap, ◌∙◌, subst, arith, None, Some}
-use Rattle.std.proofs.lemmas.Bool.{cases_Bool, cases_lt, and_parts}
+use Rattle.std.proofs.lemmas.Bool.{cases_lt, and_parts}
 use Rattle.std.proofs.lemmas.List.{get_or_past}
-use Rattle.std.proofs.Math.Nat.{mul-le-mul_left}
-use Rattle.space_model.specs.Layout.{page_of, page_slots, slot_address, slot_bytes}
+use Rattle.space_model.specs.Layout.{page_of, page_slots, slot_address}
 use Rattle.space_model.specs.Ages.{is_protected_guard}
 use Rattle.space_planes.specs.Planes.{bit}
 use Rattle.space_planes.proofs.Bits.{within_from_bit}
@@ -26,58 +25,33 @@ use Rattle.space_heap.specs.Walks.{HasNoneFrom, IsNext, HasNoneOn, IsNextOn, is_
 use Rattle.space_heap.specs.declared.heap.Heap.TheInside.{Inside}
 use Rattle.space_heap.specs.Inside.{Rest, rest_of, view_with, view_from, AreMarksOf, AreAllMarks, IsHeap}
 use Rattle.space_heap.specs.words.SlotPlaces.{is_slot_of, IsSlotAt}
-use Rattle.space_heap.proofs.starts.Starts.{Start, start_parts, start_address, no_start_past, few_slots}
+use Rattle.space_heap.proofs.starts.Starts.{no_start_past, few_slots}
 use Rattle.space_heap.proofs.Laws.{slot_at_none}
 use Rattle.space_heap.proofs.ObjectLaws.{occupied_from_object}
 use Rattle.space_heap.proofs.starts.PoolStarts.{none_spare}
 use Rattle.space_heap.proofs.fields.Views.{slot_at_read}
-use Rattle.space_heap.proofs.fields.Readers.{slot_within, none_occupied, none_object, is_object_read, traits_read}
+use Rattle.space_heap.proofs.fields.Readers.{none_occupied, none_object, is_object_read, traits_read}
 use Rattle.space_heap.proofs.updates.OldMarkedSlots.{old_by}
 use Rattle.space_heap.proofs.updates.SweptSlots.{gone_from}
 use Rattle.space_heap.proofs.fields.FreeReads.{free_place}
 use Rattle.space_heap.proofs.fields.Here.{and_same, used_here, words_here}
+use Rattle.space_heap.proofs.walks.PagePlaces.{address_is, few, absent_at, lower}
 
 -- `named` tells it of addresses, and `held` of the slots of the page
 module _ (v : PoolsView) (page pool start from : ℕ) (named held : ℕ → Bool) (sound : IsSoundPools v)
     (none : (a : ℕ) → is_slot_of v a ≡ false → named a ≡ false) (read : (a slot : ℕ) → IsSlotAt v a page slot → named a ≡ held slot)
     (its : pool_at v page ≡ Some pool) (known : pool < 5) (first : (k : ℕ) → k < page_slots pool → (start ≤ k) ↔ (from ≤ slot_address page pool k)) where
-  at_slot : (a : ℕ) → page_of a ≡ page → is_slot_of v a ≡ true → IsSlotAt v a page (slot_number (Some pool) a)
-  at_slot a on is = record { is = is; on_page = sym on; in_slot = ap (λ o. slot_number o a) (sym (ap (pool_at v) on ∙ its)) }
-
-  address_is : (a : ℕ) → page_of a ≡ page → is_slot_of v a ≡ true → a ≡ slot_address page pool (slot_number (Some pool) a)
-  unfolding is_slot_of
-  address_is a on is =
-      let s = start_parts (pool_at v (page_of a)) (length (page_at v (page_of a)).slots) a is in
-      start_address pool (length (page_at v (page_of a)).slots) a (subst (λ o. Start o (length (page_at v (page_of a)).slots) a) (ap (pool_at v) on ∙ its) s)
-      ∙ ap (λ k. slot_address k pool (slot_number (Some pool) a)) on
-
-  few : (a : ℕ) → page_of a ≡ page → is_slot_of v a ≡ true → slot_number (Some pool) a < page_slots pool
-  few a on is = places.slot_within v pool page (slot_number (Some pool) a) sound its (slot_within v a page (slot_number (Some pool) a) (at_slot a on is))
-
   -- an address whose slot doesn't hold it
-  absent_at : (a : ℕ) → page_of a ≡ page → (is_slot_of v a ≡ true → held (slot_number (Some pool) a) ≡ false) → named a ≡ false
-  absent_at a on absent = ⊎_elim
-      (λ is. read a (slot_number (Some pool) a) (at_slot a on is) ∙ absent is)
-      (λ out. none a out)
-      (cases_Bool (is_slot_of v a))
+  absent : (a : ℕ) → page_of a ≡ page → (is_slot_of v a ≡ true → held (slot_number (Some pool) a) ≡ false) → named a ≡ false
+  absent a on at = absent_at v page pool sound its a on named held none read at
 
   from_start : (a : ℕ) → page_of a ≡ page → from ≤ a → is_slot_of v a ≡ true → start ≤ slot_number (Some pool) a
-  from_start a on there is = (first (slot_number (Some pool) a) (few a on is)).1 (subst (λ x. from ≤ x) (address_is a on is) there)
+  from_start a on there is = (first (slot_number (Some pool) a) (few v page pool sound its a on is)).1
+      (subst (λ x. from ≤ x) (address_is v page pool sound its a on is) there)
 
   -- no slot from the start on holds it
   clear_from : ((k : ℕ) → start ≤ k → held k ≡ false) → (a : ℕ) → page_of a ≡ page → from ≤ a → named a ≡ false
-  clear_from absent a on there = absent_at a on (λ is. absent (slot_number (Some pool) a) (from_start a on there is))
-
-  order : (s t : ℕ) → s ≤ t → slot_address page pool s ≤ slot_address page pool t
-  unfolding slot_address
-  order s t below = let o = mul-le-mul_left {m = s} {n = t} (slot_bytes pool) below in omega arith
-
-  -- of two slots the one at the lower address is the lower one
-  lower : (a s : ℕ) → page_of a ≡ page → is_slot_of v a ≡ true → a < slot_address page pool s → slot_number (Some pool) a < s
-  lower a s on is below = ⊎_elim
-      (λ l. l)
-      (λ past. let o = order s (slot_number (Some pool) a) past in let e = address_is a on is in absurd (omega arith))
-      (cases_lt (slot_number (Some pool) a) s)
+  clear_from clear a on there = absent a on (λ is. clear (slot_number (Some pool) a) (from_start a on there is))
 
   -- the first slot from the start on that holds it
   module _ (s a : ℕ) (is : a ≡ slot_address page pool s) (above : start ≤ s) (here : s < length (page_at v page).slots) (holds : held s ≡ true)
@@ -90,8 +64,8 @@ module _ (v : PoolsView) (page pool start from : ℕ) (named held : ℕ → Bool
       on = sym at.on_page;
       from_there = subst (λ x. from ≤ x) (sym is) ((first s (places.slot_within v pool page s sound its here)).0 above);
       is = read a s at ∙ holds;
-      before = λ b on there below. absent_at b on (λ at.
-          before (slot_number (Some pool) b) (from_start b on there at) (lower b s on at (subst (λ x. b < x) is below)));
+      before = λ b on there below. absent b on (λ at.
+          before (slot_number (Some pool) b) (from_start b on there at) (lower v page pool sound its b on s at (subst (λ x. b < x) is below)));
     }
 
 none_sought : (v : PoolsView) (ms : List Marks) (rest : Rest) (sought : Sought) (a : ℕ) → is_slot_of v a ≡ false
@@ -244,7 +218,7 @@ unfolding is_slot
 no_slot_beyond v a past = ap (λ (p : PageView). is_start p.pool (length p.slots) a) (get_or_past v.pages (page_of a) no_page past)
     ∙ no_start_past None 0 a (omega arith)
 
-none_beyond : (v : HeapView) (sought : Sought) (a : ℕ) → length v.pages ≤ page_of a → is_sought sought v a ≡ false
+pub none_beyond : (v : HeapView) (sought : Sought) (a : ℕ) → length v.pages ≤ page_of a → is_sought sought v a ≡ false
 unfolding is_object is_occupied object_of
 none_beyond v Present a past = ap has_present (slot_at_none v a (no_slot_beyond v a past))
 none_beyond v MinorScan a past =

@@ -73,22 +73,4 @@ impl Heap {
     {
         self.count(Counted::Noted(Note::Kept))
     }
-
-    /// How many compactions there were. No heap is compacted yet.
-    pub fn compactions(&self) -> u64
-        ensures { result ≡ self.now.counters.compactions }
-    {
-        // A field is read since only then it is known what the heap's view has.
-        let _born = self.born;
-        0
-    }
-
-    /// How many objects were moved by compactions. No heap is compacted yet.
-    pub fn moves(&self) -> u64
-        ensures { result ≡ self.now.counters.moves }
-    {
-        // A field is read since only then it is known what the heap's view has.
-        let _born = self.born;
-        0
-    }
 }

@@ -19,7 +19,10 @@ made c = record {
   minor_verdicts = 0;
   other_verdicts = 0;
   freed = 0;
+  compactions = 0;
+  moves = 0;
   phase = Idle;
+  cursor = 0;
   working = c.in_ok-new-2.field-0;
 }
 
