@@ -10,13 +10,11 @@ use Rattle.space_model.specs.Collections.{IsCollection}
 use Rattle.space_model.specs.Lawful.{Effects}
 use Rattle.space_model.specs.Outputs.{Replied}
 use Rattle.space_model.specs.State.{State}
-use Rattle.space_roots.specs.WordRoots.{root_words}
 use Rattle.space_engine.specs.Answered.{IsLawfulAnswer, IsAnswered, IsCutOff}
-use Rattle.space_engine.specs.HeapCollections.{IsCollecting, IsHeapCollection, IsTickedCollection, AreTold, AreCut}
-use Rattle.space_engine.specs.Stands.{Represents}
+use Rattle.space_engine.specs.HeapCollections.{IsCollecting, IsCollected, IsTickedCollection, AreTold, AreCut}
 use Rattle.space_engine.specs.Ticks.{IsCompletedTicked, IsTicked}
 use Rattle.space_engine.specs.Turns.{CanAnswer}
-use Rattle.space_engine.specs.Views.{View, with_finals, with_judged}
+use Rattle.space_engine.specs.Views.{View}
 use Rattle.space_engine.proofs.Collecting.{collects_to, collection_spelled}
 
 collects_by : (s : State) (command : Command) (kind : Kind) → IsCollecting command kind → (events : List Event) (scans : ℕ) (t : State) →
@@ -35,23 +33,22 @@ ticked_by s Minor kind k events scans ticks ticked rose = rose
 ticked_by s Gc kind k events scans ticks ticked rose = rose
 ticked_by s _ kind k events scans ticks ticked rose = absurd k
 
-module _ (v new : View) (rest : new ≡ with_finals (with_judged v new.heap) new.finals) (able : CanAnswer v.heap) (command : Command) (kind : Kind) (other : kind ≢ Major)
-    (by : IsCollecting command kind) where
-  lawful : (ended scans : ℕ) (events : List Event) → IsHeapCollection v.heap v.finals new.heap new.finals kind (root_words v.roots) v.stack ended scans events →
+module _ (v new : View) (able : CanAnswer v.heap) (command : Command) (kind : Kind) (other : kind ≢ Major) (by : IsCollecting command kind) where
+  lawful : (ended scans : ℕ) (events : List Event) → IsCollected v new kind ended scans events →
       IsLawfulAnswer v new command events (Scanned scans)
   lawful ended scans events c = record {
     answers = λ s h.
-        let to = collects_to v s h able.collect.rests new.heap new.finals kind other ended scans events c in
+        let to = collects_to v s h able.collect.rests new kind other ended scans events c in
         record {
           state = to.state;
-          represents = subst (λ (w : View). Represents w to.state) (sym rest) to.holds.represents;
+          represents = to.holds.represents;
           effects = collects_by s command kind by events scans to.state to.collects;
         };
-    spelled = λ s h. collection_spelled v s h able.collect.rests new.heap new.finals kind other ended scans events c able.born;
+    spelled = λ s h. collection_spelled v s h able.collect.rests new kind other ended scans events c able.born;
   }
 
   pub collection_answered : (scans gone : ℕ) (before after : Option (List ℕ)) (ticks ticked : ℕ) →
-      AreTold (IsTickedCollection v.heap v.finals new.heap new.finals kind (root_words v.roots) v.stack scans ticks ticked) gone before after →
+      AreTold (IsTickedCollection v new kind scans ticks ticked) gone before after →
       IsAnswered v new command (Scanned scans) gone before after ticks ticked
   collection_answered scans gone before after ticks ticked told =
       let c = told.are.collects in
@@ -62,13 +59,13 @@ module _ (v new : View) (rest : new ≡ with_finals (with_judged v new.heap) new
         written = told.written;
         ticks_are = λ s h. ticked_by s command kind by told.events scans ticks ticked (record {
           ended = told.are.ended;
-          ended_are = (collects_to v s h able.collect.rests new.heap new.finals kind other told.are.ended scans told.events c).ended_are;
+          ended_are = (collects_to v s h able.collect.rests new kind other told.are.ended scans told.events c).ended_are;
           ticked = told.are.rose;
         });
       }
 
   pub collection_cut_off : (before after : Option (List ℕ)) →
-      AreCut (λ events. (ended scans : ℕ) × IsHeapCollection v.heap v.finals new.heap new.finals kind (root_words v.roots) v.stack ended scans events) before after →
+      AreCut (λ events. (ended scans : ℕ) × IsCollected v new kind ended scans events) before after →
       IsCutOff v new command before after
   collection_cut_off before after cut =
       let (ended, scans, c) = cut.are in

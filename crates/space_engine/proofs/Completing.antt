@@ -23,12 +23,11 @@ use Rattle.space_collector.specs.PagesSwept.{SweepsAll}
 use Rattle.space_collector.proofs.HeapVerdictLaws.{phase-verdict}
 use Rattle.space_collector.proofs.ToldLines.{text_of-append, prefix_after, prefix_longer}
 use Rattle.space_engine.specs.Counting.{no_counts}
-use Rattle.space_engine.specs.HeapCollections.{IsTelling, IsHeapCompletion, IsHeapCollection, IsTickedCollection, IsHeapExit, IsTickedExit, AreTold, AreCut}
+use Rattle.space_engine.specs.HeapCollections.{IsTelling, IsHeapCompletion, IsCompletion, IsCollected, IsTickedCollection, IsEmptied, IsTickedExit, AreTold, AreCut}
 use Rattle.space_engine.specs.Turns.{IsAtRest}
-use Rattle.space_engine.specs.Views.{View, with_judged}
+use Rattle.space_engine.specs.Views.{View, with_completed, with_judged, with_swept, without_starts}
 use Rattle.space_engine.proofs.Collecting.{phase_at_rest}
 use Rattle.space_engine.proofs.OutputLists.{counted_names, counted_both}
-use Rattle.space_engine.proofs.Purges.{completed_view}
 
 -- what is so of events is so of those that were written
 told_weaker : (P Q : List Event → Type 0) (gone : ℕ) (before after : Option (List ℕ)) → ((events : List Event) → P events → Q events) →
@@ -119,13 +118,40 @@ module _ (old : HeapView) (f : FinalLists) (idle : HeapView) (g : FinalLists) (r
       (⊎_elim (λ marking. absurd (other marking)) swept)
       (phase_at_rest old.phase rests.0 rests.1)
 
--- a verdict after a completion is one by the roots and the stack from before both
-pub verdict_after : (old before mid : View) (new : HeapView) (kind : Kind) (scans : ℕ) → before ≡ mid → mid ≡ completed_view old mid.heap mid.finals →
-    IsHeapVerdict before.heap new kind (root_words before.roots) before.stack scans →
-    IsHeapVerdict mid.heap new kind (root_words old.roots) old.stack scans
-verdict_after old before mid new kind scans same rest verdict =
-    subst (λ (u : View). IsHeapVerdict u.heap new kind (root_words u.roots) u.stack scans) rest
-    (subst (λ (u : View). IsHeapVerdict u.heap new kind (root_words u.roots) u.stack scans) same verdict)
+-- what was completed outside a compaction is a completion, with its lines written whole or in part
+module _ (old new : View) (rest : new ≡ with_completed old new.heap new.finals) (idle : new.heap.phase ≡ Idle) {T E : Type 0} (result : Result T E)
+    (scans gone : T → ℕ) (before after : Option (List ℕ)) where
+  abbrev AtRest : ℕ → List Event → Type 0
+  AtRest scans events = IsHeapCompletion old.heap old.finals new.heap new.finals (root_words old.roots) old.stack scans events
+
+  completes : (scans : ℕ) (events : List Event) → AtRest scans events → IsCompletion old new scans events
+  completes scans events c = record { rests = λ rests. record { heap = c; rest = rest }; idle = idle }
+
+  pub completion_done : IfOk result (λ ended. AreTold (AtRest (scans ended)) (gone ended) before after) →
+      IfOk result (λ ended. AreTold (IsCompletion old new (scans ended)) (gone ended) before after)
+  completion_done told = IfOk-weaker result _ _
+      (λ ended t. told_weaker (AtRest (scans ended)) (IsCompletion old new (scans ended)) (gone ended) before after (completes (scans ended)) t) told
+
+module _ (old new : View) (rest : new ≡ with_completed old new.heap new.finals) (idle : new.heap.phase ≡ Idle) {T E : Type 0} (result : Result T E)
+    (before after : Option (List ℕ)) where
+  pub completion_fault : OnErr result (AreCut (λ events. (scans : ℕ) × IsHeapCompletion old.heap old.finals new.heap new.finals (root_words old.roots) old.stack scans events) before after) →
+      OnErr result (AreCut (λ events. (scans : ℕ) × IsCompletion old new scans events) before after)
+  completion_fault cut = on_err_weaker result
+      (λ t. cut_weaker _ _ before after (λ events (scans, c). (scans, record { rests = λ rests. record { heap = c; rest = rest }; idle = idle })) t) cut
+
+-- what is purged by the heap after a verdict is of the space that was there before it
+pub judged_now : (before mid new : View) (heap : HeapView) → before ≡ mid → new ≡ with_judged before heap → new ≡ with_judged mid new.heap
+judged_now before mid new heap same judged =
+    let is : heap ≡ new.heap = sym (ap (λ (v : View). v.heap) judged) in
+    judged ∙ (λ i. with_judged (same i) (is i))
+
+-- and so is the verdict
+pub verdict_now : (before mid new : View) (heap : HeapView) (kind : Kind) (scans : ℕ) → before ≡ mid → new ≡ with_judged before heap →
+    IsHeapVerdict before.heap heap kind (root_words before.roots) before.stack scans →
+    IsHeapVerdict mid.heap new.heap kind (root_words mid.roots) mid.stack scans
+verdict_now before mid new heap kind scans same judged verdict =
+    subst (λ heap. IsHeapVerdict mid.heap heap kind (root_words mid.roots) mid.stack scans) (sym (ap (λ (v : View). v.heap) judged))
+    (subst (λ (u : View). IsHeapVerdict u.heap heap kind (root_words u.roots) u.stack scans) same verdict)
 
 -- a completion, and then the lines of a verdict of the kind, which left the heap `judged`: what they come to together
 module _ (kind : Kind) (judged : HeapView) (P Q : List Event → Type 0)
@@ -167,66 +193,65 @@ module _ (kind : Kind) (judged : HeapView) (P Q : List Event → Type 0)
         (prefix_longer before after (text_of (map Told cut.events)) (text_of (map Told lines)) cut.prefix);
   }
 
--- a collection: a completion, which left the heap `idle`, and then a verdict of the kind, which left the last heap
-module _ (old : HeapView) (f : FinalLists) (idle new : HeapView) (g : FinalLists) (kind : Kind) (roots stack : List ℕ) (scans : ℕ)
-    (verdict : IsHeapVerdict idle new kind roots stack scans) (few : scans < 2 ^ 27) where
+-- a collection: a completion, which left the space `idle`, and then a verdict of the kind, which left the last space
+module _ (old idle new : View) (kind : Kind) (scans : ℕ) (verdict : IsHeapVerdict idle.heap new.heap kind (root_words idle.roots) idle.stack scans)
+    (few : scans < 2 ^ 27) (judged : new ≡ with_judged idle new.heap) where
   abbrev Completed : ℕ → List Event → Type 0
-  Completed ended events = IsHeapCompletion old f idle g roots stack ended events
+  Completed ended events = IsCompletion old idle ended events
 
   abbrev Collected : List Event → Type 0
-  Collected events = (ended scans : ℕ) × IsHeapCollection old f new g kind roots stack ended scans events
+  Collected events = (ended scans : ℕ) × IsCollected old new kind ended scans events
 
   abbrev told : List Event
-  told = verdict_events kind (gone_names new)
+  told = verdict_events kind (gone_names new.heap)
 
-  collection : (ended : ℕ) (completion : List Event) → Completed ended completion →
-      IsHeapCollection old f new g kind roots stack ended scans (completion ++ told)
+  collection : (ended : ℕ) (completion : List Event) → Completed ended completion → IsCollected old new kind ended scans (completion ++ told)
   collection ended completion c = record {
     idle = idle;
     completion = completion;
     completes = c;
     told = told;
     tells = record { verdict = verdict; few = few; events_are = refl };
+    judged = judged;
     events_are = refl;
   }
 
   module _ (before middle after : Option (List ℕ)) where
     pub collected_done : (ended first second ticks ticked : ℕ) → AreTold (Completed ended) first before middle →
-        second ≡ length (gone_names new) → Appends middle after (text_of (map Told told)) → ticked ≡ ticks + ended + scans →
-        AreTold (IsTickedCollection old f new g kind roots stack scans ticks ticked) (first + second) before after
+        second ≡ length (gone_names new.heap) → Appends middle after (text_of (map Told told)) → ticked ≡ ticks + ended + scans →
+        AreTold (IsTickedCollection old new kind scans ticks ticked) (first + second) before after
     collected_done ended first second ticks ticked c many written rose =
-        both_told kind new (Completed ended) (IsTickedCollection old f new g kind roots stack scans ticks ticked)
+        both_told kind new.heap (Completed ended) (IsTickedCollection old new kind scans ticks ticked)
         (λ completion c. record { ended = ended; collects = collection ended completion c; rose = rose })
         before middle after first second c many written
 
     pub verdict_cut : (ended first : ℕ) → AreTold (Completed ended) first before middle → AppendsPrefix middle after (text_of (map Told told)) →
         AreCut Collected before after
     verdict_cut ended first c prefix =
-        second_cut kind new (Completed ended) Collected (λ completion c. (ended, scans, collection ended completion c)) before middle after first c prefix
+        second_cut kind new.heap (Completed ended) Collected (λ completion c. (ended, scans, collection ended completion c)) before middle after first c prefix
 
   pub completion_cut : (before after : Option (List ℕ)) → AreCut (λ events. (ended : ℕ) × Completed ended events) before after →
       AreCut Collected before after
-  completion_cut = first_cut kind new (λ events. (ended : ℕ) × Completed ended events) Collected
+  completion_cut = first_cut kind new.heap (λ events. (ended : ℕ) × Completed ended events) Collected
       (λ completion (ended, c). (ended, scans, collection ended completion c))
 
--- `exit` up to the finalizers that run: a completion, a whole verdict without roots and stack words, which left the heap `judged`, and sweeps of
--- all pages
-module _ (old : HeapView) (f : FinalLists) (idle : HeapView) (queued : FinalLists) (judged new : HeapView) (g : FinalLists) (roots stack : List ℕ)
-    (scans : ℕ) (verdict : IsHeapVerdict idle judged Full [] [] scans) (few : scans < 2 ^ 27) (sweeps : SweepsAll judged queued new g) where
+-- `exit` up to the finalizers that run: a completion, which left the space `idle`, a whole verdict without roots and stack words, which left the heap
+-- `judged`, and sweeps of all pages
+module _ (old idle : View) (judged : HeapView) (new : View) (scans : ℕ) (verdict : IsHeapVerdict idle.heap judged Full [] [] scans) (few : scans < 2 ^ 27)
+    (sweeps : SweepsAll judged idle.finals new.heap new.finals)
+    (swept : new ≡ with_swept (with_judged (without_starts idle) judged) new.heap new.finals) where
   abbrev CompletedFirst : ℕ → List Event → Type 0
-  CompletedFirst ended events = IsHeapCompletion old f idle queued roots stack ended events
+  CompletedFirst ended events = IsCompletion old idle ended events
 
   abbrev Exited : List Event → Type 0
-  Exited events = (ended : ℕ) × IsHeapExit old f new g roots stack ended events
+  Exited events = (ended : ℕ) × IsEmptied old new ended events
 
   abbrev told_last : List Event
   told_last = verdict_events Full (gone_names judged)
 
-  abbrev exits : (ended : ℕ) (completion : List Event) → CompletedFirst ended completion →
-      IsHeapExit old f new g roots stack ended (completion ++ told_last)
+  abbrev exits : (ended : ℕ) (completion : List Event) → CompletedFirst ended completion → IsEmptied old new ended (completion ++ told_last)
   exits ended completion c = record {
     idle = idle;
-    queued = queued;
     completion = completion;
     completes = c;
     judged = judged;
@@ -234,15 +259,16 @@ module _ (old : HeapView) (f : FinalLists) (idle : HeapView) (queued : FinalList
     told = told_last;
     tells = record { verdict = verdict; few = few; events_are = refl };
     sweeps = sweeps;
+    swept = swept;
     events_are = refl;
   }
 
   module _ (before middle after : Option (List ℕ)) where
     pub exit_done : (ended first second ticks ticked : ℕ) → AreTold (CompletedFirst ended) first before middle →
         second ≡ length (gone_names judged) → Appends middle after (text_of (map Told told_last)) → ticked ≡ ticks + ended + scans →
-        AreTold (IsTickedExit old f new g roots stack ticks ticked) (first + second) before after
+        AreTold (IsTickedExit old new ticks ticked) (first + second) before after
     exit_done ended first second ticks ticked c many written rose =
-        both_told Full judged (CompletedFirst ended) (IsTickedExit old f new g roots stack ticks ticked)
+        both_told Full judged (CompletedFirst ended) (IsTickedExit old new ticks ticked)
         (λ completion c. record { ended = ended; exits = exits ended completion c; rose = rose })
         before middle after first second c many written
 

@@ -13,14 +13,13 @@ use Rattle.space_model.specs.Outputs.{Output, Told, Replied}
 use Rattle.space_model.specs.Spelling.{IsSpelled}
 use Rattle.space_model.specs.Texts.{AreSpelled, text_of, reply_pieces, line_of_pieces}
 use Rattle.space_finals.specs.FinalLists.{FinalLists}
-use Rattle.space_roots.specs.WordRoots.{root_words}
 use Rattle.space_collector.proofs.ToldLines.{text_of-append, prefix_after, prefix_longer}
 use Rattle.space_engine.specs.Answered.{IsLawfulAnswer, AreLawful, IsWritten, IsWrittenInPart}
 use Rattle.space_engine.specs.Counting.{no_counts, counts_of, sum_of_counts}
-use Rattle.space_engine.specs.HeapCollections.{IsHeapExit, IsTickedExit, AreTold, AreCut}
+use Rattle.space_engine.specs.HeapCollections.{IsEmptied, IsTickedExit, AreTold, AreCut}
 use Rattle.space_engine.specs.Stands.{Represents}
 use Rattle.space_engine.specs.Turns.{CanAnswer}
-use Rattle.space_engine.specs.Views.{View, with_finals, with_judged, with_queue, without_starts}
+use Rattle.space_engine.specs.Views.{View, with_queue}
 use Rattle.space_engine.proofs.ExitStates.{exits_to, exit_spelled}
 use Rattle.space_engine.proofs.OutputLists.{counts_of-append, spelled_both}
 use Rattle.space_engine.proofs.Stepping.{outputs_text, outputs_counts, outputs_lawful}
@@ -60,7 +59,7 @@ pub few_wait : (inner lists : FinalLists) (waiting : ℕ) → inner ≡ lists �
 few_wait inner lists waiting same many = subst (λ (lists : FinalLists). length lists.queue ≤ waiting) same (omega (arith, many))
 
 -- all was emptied, which left the space `mid`, and then no finalizer waited any more
-module _ (v mid new : View) (rest : mid ≡ with_finals (with_judged (without_starts v) mid.heap) mid.finals) (ran : new ≡ with_queue mid [])
+module _ (v mid new : View) (ran : new ≡ with_queue mid [])
     (able : CanAnswer v.heap) (spelled : AreSpelled (map Told (ran_events mid.finals.queue))) where
   abbrev lines : List Event
   lines = ran_events mid.finals.queue
@@ -69,18 +68,18 @@ module _ (v mid new : View) (rest : mid ≡ with_finals (with_judged (without_st
   reply = ExitRan (length mid.finals.queue)
 
   abbrev Exits : ℕ → List Event → Type 0
-  Exits ended events = IsHeapExit v.heap v.finals mid.heap mid.finals (root_words v.roots) v.stack ended events
+  Exits ended events = IsEmptied v mid ended events
 
   lawful : (ended : ℕ) (events : List Event) → Exits ended events → IsLawfulAnswer v new Exit (events ++ lines) reply
   lawful ended events e = record {
     answers = λ s h.
-        let to = exits_to v s h able.collect.rests mid.heap mid.finals ended events e in
+        let to = exits_to v s h able.collect.rests mid ended events e in
         record {
           state = to.state;
-          represents = subst (λ (w : View). Represents w to.state) (sym (ran ∙ ap (λ (w : View). with_queue w []) rest)) to.represents;
+          represents = subst (λ (w : View). Represents w to.state) (sym ran) to.represents;
           effects = record { reply = reply; answer_is = refl; is = to.exits };
         };
-    spelled = λ s h. spelled_both events lines (exit_spelled v s h able.collect.rests mid.heap mid.finals ended events e able.born) spelled;
+    spelled = λ s h. spelled_both events lines (exit_spelled v s h able.collect.rests mid ended events e able.born) spelled;
   }
 
   -- the lines of what is gone, and then those of the finalizers
@@ -107,7 +106,7 @@ module _ (v mid new : View) (rest : mid ≡ with_finals (with_judged (without_st
     }
 
     module _ (gone ticks ticked : ℕ) (before middle : Option (List ℕ))
-        (t : AreTold (IsTickedExit v.heap v.finals mid.heap mid.finals (root_words v.roots) v.stack ticks ticked) gone before middle) where
+        (t : AreTold (IsTickedExit v mid ticks ticked) gone before middle) where
       t_lawful : AreLawful v new Exit (outputs t.events)
       t_lawful = all_lawful t.are.ended t.events t.are.exits
 
@@ -144,7 +143,7 @@ module _ (v mid new : View) (rest : mid ≡ with_finals (with_judged (without_st
           outputs = outputs t.events;
           lawful = t_lawful;
           done = λ s h.
-              let to = exits_to v s h able.collect.rests mid.heap mid.finals t.are.ended t.events t.are.exits in
+              let to = exits_to v s h able.collect.rests mid t.are.ended t.events t.are.exits in
               record {
                 counted = sym (counted_reply gone (length mid.finals.queue))
                     ∙ outputs_counts (t.events ++ lines) reply _ (counted_all t.events mid.finals.queue gone t.counted);

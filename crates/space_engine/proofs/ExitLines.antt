@@ -10,18 +10,19 @@ use Rattle.space_model.specs.declared.event.Kind.TheVariants.{Full}
 use Rattle.space_model.specs.Outputs.{Told}
 use Rattle.space_model.specs.Texts.{text_of}
 use Rattle.space_model.specs.Verdicts.{verdict_events}
-use Rattle.space_finals.specs.FinalLists.{FinalLists}
 use Rattle.space_heap.specs.HeapView.{HeapView}
 use Rattle.space_collector.specs.GoneNames.{gone_names}
 use Rattle.space_collector.specs.HeapVerdicts.{IsHeapVerdict}
 use Rattle.space_collector.specs.PagesSwept.{SweepsAll}
-use Rattle.space_engine.specs.HeapCollections.{IsHeapCompletion, IsHeapExit, IsTickedExit, AreTold, AreCut}
+use Rattle.space_engine.specs.HeapCollections.{IsCompletion, IsEmptied, IsTickedExit, AreTold, AreCut}
+use Rattle.space_engine.specs.Views.{View, with_judged, with_swept, without_starts}
 use Rattle.space_engine.proofs.Completing.{exit_done, exit_verdict_cut, exit_completion_cut}
 
-module _ (old : HeapView) (f : FinalLists) (idle : HeapView) (queued : FinalLists) (judged new : HeapView) (g : FinalLists) (roots stack : List ℕ)
-    (scans : ℕ) (verdict : IsHeapVerdict idle judged Full [] [] scans) (few : scans < 2 ^ 27) (sweeps : SweepsAll judged queued new g) where
+module _ (old idle : View) (judged : HeapView) (new : View) (scans : ℕ) (verdict : IsHeapVerdict idle.heap judged Full [] [] scans) (few : scans < 2 ^ 27)
+    (sweeps : SweepsAll judged idle.finals new.heap new.finals)
+    (swept : new ≡ with_swept (with_judged (without_starts idle) judged) new.heap new.finals) where
   abbrev Completes : ℕ → List Event → Type 0
-  Completes ended events = IsHeapCompletion old f idle queued roots stack ended events
+  Completes ended events = IsCompletion old idle ended events
 
   abbrev told : List ℕ
   told = text_of (map Told (verdict_events Full (gone_names judged)))
@@ -31,23 +32,23 @@ module _ (old : HeapView) (f : FinalLists) (idle : HeapView) (queued : FinalList
         IfOk ended (λ e. AreTold (Completes (scans_of e)) (gone_of e) before middle) → IfOk ended (λ e. between ≡ ticks + scans_of e) →
         gone ≡ length (gone_names judged) → ticked ≡ between + scans → IfOk result (λ total. OnErr ended ⊥) →
         IfOk result (λ total. IfOk ended (λ e. (total ≡ gone_of e + gone) × Appends middle after told)) →
-        IfOk result (λ total. AreTold (IsTickedExit old f new g roots stack ticks ticked) total before after)
+        IfOk result (λ total. AreTold (IsTickedExit old new ticks ticked) total before after)
     emptied_done ended (Err fault) gone ticks between ticked c first many rose failed both = tt
     emptied_done (Err fault) (Ok total) gone ticks between ticked c first many rose failed both = absurd failed
     emptied_done (Ok e) (Ok total) gone ticks between ticked c first many rose failed (total_is, written) =
-        subst (λ total. AreTold (IsTickedExit old f new g roots stack ticks ticked) total before after) (sym total_is)
-        (exit_done old f idle queued judged new g roots stack scans verdict few sweeps before middle after (scans_of e) (gone_of e) gone ticks ticked
+        subst (λ total. AreTold (IsTickedExit old new ticks ticked) total before after) (sym total_is)
+        (exit_done old idle judged new scans verdict few sweeps swept before middle after (scans_of e) (gone_of e) gone ticks ticked
         c many written (rose ∙ ap (λ n. n + scans) first))
 
     pub emptied_cut : (ended : Result T E) (result : Result ℕ E) → IfOk ended (λ e. AreTold (Completes (scans_of e)) (gone_of e) before middle) →
         OnErr ended (AreCut (λ events. (scans : ℕ) × Completes scans events) before middle) →
         OnErr result (MatchResult ended (λ e. AppendsPrefix middle after told) (λ fault. after ≡ middle)) →
-        OnErr result (AreCut (λ events. (ended : ℕ) × IsHeapExit old f new g roots stack ended events) before after)
+        OnErr result (AreCut (λ events. (ended : ℕ) × IsEmptied old new ended events) before after)
     emptied_cut ended (Ok total) c cut last = tt
     emptied_cut (Ok e) (Err fault) c cut prefix =
-        exit_verdict_cut old f idle queued judged new g roots stack scans verdict few sweeps before middle after (scans_of e) (gone_of e) c prefix
+        exit_verdict_cut old idle judged new scans verdict few sweeps swept before middle after (scans_of e) (gone_of e) c prefix
     emptied_cut (Err first) (Err fault) c cut same =
-        exit_completion_cut old f idle queued judged new g roots stack scans verdict few sweeps before after
+        exit_completion_cut old idle judged new scans verdict few sweeps swept before after
         (subst (AreCut (λ events. (scans : ℕ) × Completes scans events) before) (sym same) cut)
 
 -- a write that failed before leaves the faults to it

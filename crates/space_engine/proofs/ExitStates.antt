@@ -18,7 +18,7 @@ use Rattle.space_heap.specs.HeapView.{HeapView}
 use Rattle.space_heap.specs.Sweeping.{HasNoGone}
 use Rattle.space_roots.specs.WordRoots.{root_words}
 use Rattle.space_collector.specs.GoneNames.{gone_names}
-use Rattle.space_engine.specs.HeapCollections.{IsHeapExit}
+use Rattle.space_engine.specs.HeapCollections.{IsEmptied}
 use Rattle.space_engine.specs.Stands.{Represents, Holds}
 use Rattle.space_engine.specs.Ticks.{AreCompletionScans}
 use Rattle.space_engine.specs.Turns.{IsAtRest}
@@ -28,36 +28,38 @@ use Rattle.space_engine.proofs.Collecting.{CompletesTo, completes_to, completion
 use Rattle.space_engine.proofs.Ending.{telling_spelled}
 use Rattle.space_engine.proofs.ExitStarts.{none_reached_names, completes_none, starts_dropped_sound, after_starts_dropped}
 use Rattle.space_engine.proofs.OutputLists.{spelled_both}
-use Rattle.space_engine.proofs.Purges.{completed_view, exited_rest}
 use Rattle.space_engine.proofs.WholeVerdicts.{none_gone_in}
 
 -- the state after `exit`, and that it is what the space stands for once no finalizer waits
-pub record ExitsTo (v : View) (s : State) (new : HeapView) (g : FinalLists) (ended scans : ℕ) (events : List Event) : Type 0 where
+pub record ExitsTo (new : View) (s : State) (ended scans : ℕ) (events : List Event) : Type 0 where
   pub state : State
-  pub exits : Exits s (events ++ ran_events g.queue) (length g.queue) state
+  pub exits : Exits s (events ++ ran_events new.finals.queue) (length new.finals.queue) state
   pub ended_are : AreCompletionScans s ended
   pub no_scans : scans ≡ 0
-  pub represents : Represents (with_queue (with_finals (with_judged (without_starts v) new) g) []) state
+  pub represents : Represents (with_queue new []) state
 
-module _ (v : View) (s : State) (h : Holds v s) (rests : IsAtRest v.heap) (new : HeapView) (g : FinalLists) (ended : ℕ) (events : List Event)
-    (e : IsHeapExit v.heap v.finals new g (root_words v.roots) v.stack ended events) where
-  completed : CompletesTo v s e.idle e.queued ended e.completion
-  completed = completes_to v s h rests e.idle e.queued ended e.completion e.completes
+module _ (v : View) (s : State) (h : Holds v s) (rests : IsAtRest v.heap) (new : View) (ended : ℕ) (events : List Event)
+    (e : IsEmptied v new ended events) where
+  abbrev queue : List (ℕ × List ℕ)
+  queue = new.finals.queue
+
+  completed : CompletesTo e.idle s ended e.completion
+  completed = completes_to v s h rests e.idle ended e.completion e.completes
 
   -- the space and the state without roots and stack words
   abbrev bare : View
-  bare = without_starts (completed_view v e.idle e.queued)
+  bare = without_starts e.idle
 
   abbrev left : State
   left = noted (starts_dropped completed.state)
 
   bare_holds : Holds bare left
   bare_holds = record {
-    represents = after_starts_dropped (completed_view v e.idle e.queued) completed.state completed.holds.represents;
+    represents = after_starts_dropped e.idle completed.state completed.holds.represents;
     sound = starts_dropped_sound completed.state completed.at_idle completed.holds.sound;
   }
 
-  clean : HasNoGone e.idle
+  clean : HasNoGone e.idle.heap
   clean = none_gone_in bare left bare_holds (λ sweeps. let at = completed.at_idle in cc)
 
   given : VerdictOf bare left e.judged Full e.scans
@@ -81,13 +83,13 @@ module _ (v : View) (s : State) (h : Holds v s) (rests : IsAtRest v.heap) (new :
     sound = Sound-collection left collected Full e.told e.scans collects bare_holds.sound;
   }
 
-  swept : SweepsAllTo (with_judged bare e.judged) collected new g
-  swept = swept_all_hold (with_judged bare e.judged) collected new g collected_holds e.tells.verdict.sound e.sweeps
+  swept : SweepsAllTo (with_judged bare e.judged) collected new.heap new.finals
+  swept = swept_all_hold (with_judged bare e.judged) collected new.heap new.finals collected_holds e.tells.verdict.sound e.sweeps
 
-  waits : g.queue ≡ swept.state.tables.queue
+  waits : queue ≡ swept.state.tables.queue
   waits = swept.holds.represents.finals.waiting
 
-  exits : Exits s (events ++ ran_events g.queue) (length g.queue) (queue_replaced swept.state [])
+  exits : Exits s (events ++ ran_events queue) (length queue) (queue_replaced swept.state [])
   exits = record {
     idle = completed.state;
     completion = e.completion;
@@ -102,13 +104,13 @@ module _ (v : View) (s : State) (h : Holds v s) (rests : IsAtRest v.heap) (new :
     freed = swept.freed;
     sweeps = swept.sweeps;
     events_are =
-        ap (λ events. events ++ ran_events g.queue) e.events_are
+        ap (λ events. events ++ ran_events queue) e.events_are
         ∙ ap (λ queue. e.completion ++ e.told ++ ran_events queue) waits;
     ran_are = ap length waits;
     after = refl;
   }
 
-  emptied : Represents (with_queue (with_swept (with_judged bare e.judged) new g) []) (queue_replaced swept.state [])
+  emptied : Represents (with_queue (with_swept (with_judged bare e.judged) new.heap new.finals) []) (queue_replaced swept.state [])
   emptied =
       let r = swept.holds.represents in
       record {
@@ -122,15 +124,13 @@ module _ (v : View) (s : State) (h : Holds v s) (rests : IsAtRest v.heap) (new :
         finals = record { defined = r.finals.defined; waiting = refl };
       }
 
-  pub exits_to : ExitsTo v s new g ended e.scans events
+  pub exits_to : ExitsTo new s ended e.scans events
   exits_to = record {
     state = queue_replaced swept.state [];
     exits = exits;
     ended_are = completed.scans_are;
     no_scans = given.scans_are ∙ none_reached_names completed.state;
-    represents = subst (λ (w : View). Represents (with_queue w []) (queue_replaced swept.state []))
-        (exited_rest v (completed_view v e.idle e.queued) (with_swept (with_judged bare e.judged) new g) e.judged e.scans refl clean e.tells.verdict
-        e.sweeps refl) emptied;
+    represents = subst (λ (w : View). Represents (with_queue w []) (queue_replaced swept.state [])) (sym e.swept) emptied;
   }
 
   -- its lines can be written: a completion allocates nothing
@@ -140,6 +140,6 @@ module _ (v : View) (s : State) (h : Holds v s) (rests : IsAtRest v.heap) (new :
       let same = ap (λ (graph : List Item). length graph) (leaves_completed s completed.state e.completion completed.completes).graph in
       subst (λ events. AreSpelled (map Told events)) (sym e.events_are)
       (spelled_both e.completion e.told
-      (completion_spelled v s h rests e.idle e.queued ended e.completion e.completes few)
-      (telling_spelled e.idle e.judged Full [] [] e.scans e.told e.tells (mark_started left)
+      (completion_spelled v s h rests e.idle ended e.completion e.completes few)
+      (telling_spelled e.idle.heap e.judged Full [] [] e.scans e.told e.tells (mark_started left)
       (Sound-mark_started left bare_holds.sound) given.verdict (omega (arith, many, same, few))))

@@ -45,6 +45,7 @@ mod OutputLists
 mod Purges
 mod Ending
 mod Collecting
+mod CollectionsAtRest
 mod Completing
 mod SweepCommand
 mod TurnLaws

@@ -8,7 +8,6 @@ use Rattle.space_model.specs.declared.reply.Reply.TheVariants.{Done}
 use Rattle.space_model.specs.Layout.{page_of}
 use Rattle.space_model.specs.MajorMarking.{marking_begun}
 use Rattle.space_model.specs.Markings.{mark_started}
-use Rattle.space_finals.specs.FinalLists.{FinalLists}
 use Rattle.space_heap.specs.HeapView.{Counters, HeapView}
 use Rattle.space_heap.specs.Marking.{unmarked}
 use Rattle.space_heap.specs.Objects.{is_occupied, object_of, is_moved}
@@ -24,13 +23,12 @@ use Rattle.space_major.specs.Incremental.{started}
 use Rattle.space_major.proofs.Starts.{begun, marks_started}
 use Rattle.space_collector.specs.Quiescent.{IsQuiescent, most_slots}
 use Rattle.space_engine.specs.Answered.{IsLawfulAnswer, IsAnswered, IsCutOff}
-use Rattle.space_engine.specs.HeapCollections.{AreTold, AreCut, HasJudged, IsHeapCompletion}
+use Rattle.space_engine.specs.HeapCollections.{AreTold, AreCut, HasJudged, IsCompletion}
 use Rattle.space_engine.specs.Stands.{Represents}
 use Rattle.space_engine.specs.Turns.{CanAnswer, IsOneTurn}
 use Rattle.space_engine.specs.Views.{View, with_heap}
 use Rattle.space_engine.proofs.Collecting.{CompletesTo, completes_to, completion_spelled}
 use Rattle.space_engine.proofs.MajorStart.{marking_holds}
-use Rattle.space_engine.proofs.Purges.{completed_view}
 
 -- a marking that begins changes no count, and leaves a quiescent heap so
 module _ (idle : HeapView) (roots stack : List ℕ) (nothing : idle.phase ≡ Idle) where
@@ -91,38 +89,19 @@ module _ (idle : HeapView) (roots stack : List ℕ) (nothing : idle.phase ≡ Id
       }
 
 -- what was under way was completed, and then a marking began; the parts of the space between are those after the completion
-module _ (v mid parts : View) (same : parts ≡ mid) (rest : mid ≡ completed_view v mid.heap mid.finals) (nothing : mid.heap.phase ≡ Idle) (able : CanAnswer v.heap)
+module _ (v mid parts : View) (same : parts ≡ mid) (nothing : mid.heap.phase ≡ Idle) (able : CanAnswer v.heap)
     (after : HeapView) (starts : after ≡ started parts.heap (root_words parts.roots) parts.stack) where
-  abbrev idle : HeapView
-  idle = mid.heap
+  begins : after ≡ started mid.heap (root_words mid.roots) mid.stack
+  begins = starts ∙ (λ i. started (same i).heap (root_words (same i).roots) (same i).stack)
 
-  abbrev queued : FinalLists
-  queued = mid.finals
+  view_is : with_heap parts after ≡ with_heap mid (started mid.heap (root_words mid.roots) mid.stack)
+  view_is = λ i. with_heap (same i) (begins i)
 
-  roots_stay : parts.roots ≡ v.roots
-  roots_stay = ap (λ (w : View). w.roots) (same ∙ rest)
-
-  stack_stays : parts.stack ≡ v.stack
-  stack_stays = ap (λ (w : View). w.stack) (same ∙ rest)
-
-  begins : after ≡ started idle (root_words v.roots) v.stack
-  begins = starts ∙ (λ i. started (same i).heap (root_words (roots_stay i)) (stack_stays i))
-
-  view_is : with_heap parts after ≡ with_heap (completed_view v idle queued) (started idle (root_words v.roots) v.stack)
-  view_is =
-      let ids = ap (λ (w : View). w.ids) (same ∙ rest) in
-      let weak = ap (λ (w : View). w.weak) (same ∙ rest) in
-      let finals = ap (λ (w : View). w.finals) same in
-      λ i. record { heap = begins i; roots = roots_stay i; stack = stack_stays i; ids = ids i; weak = weak i; finals = finals i }
-
-  abbrev IsCompletion : ℕ → List Event → Type 0
-  IsCompletion scans events = IsHeapCompletion v.heap v.finals idle queued (root_words v.roots) v.stack scans events
-
-  lawful : (scans : ℕ) (events : List Event) → IsCompletion scans events → IsLawfulAnswer v (with_heap parts after) Major events Done
+  lawful : (scans : ℕ) (events : List Event) → IsCompletion v mid scans events → IsLawfulAnswer v (with_heap parts after) Major events Done
   lawful scans events c = record {
     answers = λ s h.
-        let to : CompletesTo v s idle queued scans events = completes_to v s h able.collect.rests idle queued scans events c in
-        let marking = marking_holds (completed_view v idle queued) to.state to.holds nothing in
+        let to : CompletesTo mid s scans events = completes_to v s h able.collect.rests mid scans events c in
+        let marking = marking_holds mid to.state to.holds nothing in
         record {
           state = marking_begun (mark_started to.state);
           represents = subst (λ (w : View). Represents w (marking_begun (mark_started to.state))) (sym view_is) marking.represents;
@@ -132,10 +111,10 @@ module _ (v mid parts : View) (same : parts ≡ mid) (rest : mid ≡ completed_v
             is = record { idle = to.state; completes = to.completes; started = mark_started to.state; starts = refl; begins = refl };
           };
         };
-    spelled = λ s h. completion_spelled v s h able.collect.rests idle queued scans events c able.born;
+    spelled = λ s h. completion_spelled v s h able.collect.rests mid scans events c able.born;
   }
 
-  pub major_answered : (scans gone : ℕ) (before written : Option (List ℕ)) (ticks ticked : ℕ) → AreTold (IsCompletion scans) gone before written →
+  pub major_answered : (scans gone : ℕ) (before written : Option (List ℕ)) (ticks ticked : ℕ) → AreTold (IsCompletion v mid scans) gone before written →
       ticked ≡ ticks + scans → IsAnswered v (with_heap parts after) Major Done gone before written ticks ticked
   major_answered scans gone before written ticks ticked told rose = record {
     events = told.events;
@@ -143,11 +122,11 @@ module _ (v mid parts : View) (same : parts ≡ mid) (rest : mid ≡ completed_v
     counted = told.counted;
     written = told.written;
     ticks_are = λ s h.
-        let to : CompletesTo v s idle queued scans told.events = completes_to v s h able.collect.rests idle queued scans told.events told.are in
+        let to : CompletesTo mid s scans told.events = completes_to v s h able.collect.rests mid scans told.events told.are in
         record { ended = scans; ended_are = to.scans_are; ticked = omega (arith, rose) };
   }
 
-  pub major_cut_off : (before written : Option (List ℕ)) → AreCut (λ events. (scans : ℕ) × IsCompletion scans events) before written →
+  pub major_cut_off : (before written : Option (List ℕ)) → AreCut (λ events. (scans : ℕ) × IsCompletion v mid scans events) before written →
       IsCutOff v (with_heap parts after) Major before written
   major_cut_off before written cut = record {
     events = cut.events;
@@ -157,5 +136,5 @@ module _ (v mid parts : View) (same : parts ≡ mid) (rest : mid ≡ completed_v
     prefix = cut.prefix;
   }
 
-  pub major_turn : HasJudged 0 1 most_slots v.heap idle → IsOneTurn v.heap after
-  major_turn judged = subst (IsOneTurn v.heap) (sym begins) (turn_begun idle (root_words v.roots) v.stack nothing v.heap judged)
+  pub major_turn : HasJudged 0 1 most_slots v.heap mid.heap → IsOneTurn v.heap after
+  major_turn judged = subst (IsOneTurn v.heap) (sym begins) (turn_begun mid.heap (root_words mid.roots) mid.stack nothing v.heap judged)

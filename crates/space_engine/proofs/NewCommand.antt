@@ -36,8 +36,9 @@ use Rattle.space_engine.specs.Steps.{AnswersWith}
 use Rattle.space_engine.specs.Ticks.{AreCompletionScans, IsMarkingTicked, IsTicked}
 use Rattle.space_engine.specs.Turns.{IsAtRest}
 use Rattle.space_engine.specs.Views.{View, with_finals, with_judged, with_swept}
-use Rattle.space_engine.specs.HeapCollections.{IsHeapCollection, IsTickedCollection, AreTold, AreCut, HasJudged}
+use Rattle.space_engine.specs.HeapCollections.{IsCollected, IsTickedCollection, AreTold, AreCut, HasJudged}
 use Rattle.space_engine.proofs.Collecting.{CollectsTo, collects_to, collection_spelled}
+use Rattle.space_engine.proofs.CollectionsAtRest.{IsHeapCollection, heap_collection, space_collection}
 use Rattle.space_collector.specs.GoneNames.{gone_names}
 use Rattle.space_collector.specs.PagesSwept.{SweepsUntilFree}
 use Rattle.space_collector.specs.Quiescent.{most_slots}
@@ -181,8 +182,11 @@ module _ (root : List ℕ) (fields : ℕ) (guard : Guard) (style : Style) where
         its : IsHeapCollection x.heap x.finals z g Full (root_words x.roots) x.stack ended scans events
         its = collection_reserved x limited swept.holds rests z g ended scans events r root is_new late_reserved c
 
-        to : CollectsTo x limited z g Full ended scans events
-        to = collects_to x limited swept.holds rests z g Full not_major ended scans events its
+        first : IsCollected x collected Full ended scans events
+        first = space_collection x limited swept.holds rests z g Full ended scans events its
+
+        to : CollectsTo collected limited Full ended scans events
+        to = collects_to x limited swept.holds rests collected Full not_major ended scans events first
 
         -- an object was allocated after it
         late_made : (name a : ℕ) → IsRootedAllocation collected_there w root fields guard style name a →
@@ -239,7 +243,7 @@ module _ (root : List ℕ) (fields : ℕ) (guard : Guard) (style : Style) where
           IsLawfulAnswer v w (New root fields guard style) events reply
       lawful reply last = record {
         answers = λ s h. late s h reply last;
-        spelled = λ s h. collection_spelled x (limited s h) (swept s h).holds rests z g Full not_major ended scans events (its s h) born;
+        spelled = λ s h. collection_spelled x (limited s h) (swept s h).holds rests collected Full not_major ended scans events (first s h) born;
       }
 
     -- a collection tells something
@@ -249,13 +253,15 @@ module _ (root : List ℕ) (fields : ℕ) (guard : Guard) (style : Style) where
     ticked_events s [] (name ∷ names) k reply ticks ticked t = t
     ticked_events s (event ∷ completion) names k reply ticks ticked t = t
 
-    pub answered_late : (w : View) (z : HeapView) (g : FinalLists) (scans gone : ℕ) (reply : Reply) (before after : Option (List ℕ)) (ticks ticked : ℕ) →
-        AreTold (IsTickedCollection r.heap r.finals z g Full (root_words r.roots) r.stack scans ticks ticked) gone before after →
-        IsLastReply (with_finals (with_judged r z) g) w root is_new fields guard style reply →
+    pub answered_late : (w later : View) (scans gone : ℕ) (reply : Reply) (before after : Option (List ℕ)) (ticks ticked : ℕ) →
+        AreTold (IsTickedCollection r later Full scans ticks ticked) gone before after →
+        IsLastReply (with_finals (with_judged r later.heap) later.finals) w root is_new fields guard style reply →
         IsAnswered v w (New root fields guard style) reply gone before after ticks ticked
-    answered_late w z g scans gone reply before after ticks ticked told last =
+    answered_late w later scans gone reply before after ticks ticked told last =
+        let z : HeapView = later.heap in
+        let g : FinalLists = later.finals in
         let ended = told.are.ended in
-        let c = told.are.collects in
+        let c = heap_collection r later Full ended scans told.events rests told.are.collects in
         let events_are : told.events ≡ c.completion ++ verdict_events Full (gone_names z) =
         c.events_are ∙ ap (λ events. c.completion ++ events) c.tells.events_are in
         record {
@@ -280,15 +286,17 @@ module _ (root : List ℕ) (fields : ℕ) (guard : Guard) (style : Style) where
     late_spelled w z g FullReply few last = tt
     late_spelled w z g _ few last = absurd last
 
-    pub cut_off_late : (w : View) (z : HeapView) (g : FinalLists) (reply : Reply) (before after : Option (List ℕ)) → HasJudged 1 2 most_slots r.heap z →
-        AreCut (λ events. (ended scans : ℕ) × IsHeapCollection r.heap r.finals z g Full (root_words r.roots) r.stack ended scans events) before after →
-        IsLastReply (with_finals (with_judged r z) g) w root is_new fields guard style reply → IsCutOff v w (New root fields guard style) before after
-    cut_off_late w z g reply before after judged cut last =
-        let (ended, scans, c) = cut.are in
+    pub cut_off_late : (w later : View) (reply : Reply) (before after : Option (List ℕ)) → HasJudged 1 2 most_slots r.heap later.heap →
+        AreCut (λ events. (ended scans : ℕ) × IsCollected r later Full ended scans events) before after →
+        IsLastReply (with_finals (with_judged r later.heap) later.finals) w root is_new fields guard style reply →
+        IsCutOff v w (New root fields guard style) before after
+    cut_off_late w later reply before after judged cut last =
+        let (ended, scans, its) = cut.are in
+        let c = heap_collection r later Full ended scans cut.events rests its in
         record {
           events = cut.events;
           reply = reply;
-          lawful = lawful w z g ended scans cut.events c reply last;
-          reply_spelled = late_spelled w z g reply (let same = judged.born in omega (arith, same, born)) last;
+          lawful = lawful w later.heap later.finals ended scans cut.events c reply last;
+          reply_spelled = late_spelled w later.heap later.finals reply (let same = judged.born in omega (arith, same, born)) last;
           prefix = cut.prefix;
         }

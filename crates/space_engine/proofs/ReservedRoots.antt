@@ -23,11 +23,12 @@ use Rattle.space_roots.proofs.RootLemmas.{with_root_word-reserved, without_root-
 use Rattle.space_engine.specs.Allocations.{IsReserved, IsReservedAndSwept, IsSwept, IsRootedAllocation}
 use Rattle.space_engine.specs.Stands.{Holds}
 use Rattle.space_engine.specs.Views.{View, with_finals, with_judged, with_swept, with_root_dropped, with_root_reserved, with_root_written}
-use Rattle.space_engine.specs.HeapCollections.{IsTelling, IsHeapCompletion, IsHeapCollection}
+use Rattle.space_engine.specs.HeapCollections.{IsTelling, IsHeapCompletion}
 use Rattle.space_engine.specs.Turns.{IsAtRest}
-use Rattle.space_engine.proofs.Collecting.{completes_to}
+use Rattle.space_engine.proofs.Collecting.{CompletesTo, completes_to}
+use Rattle.space_engine.proofs.CollectionsAtRest.{IsHeapCollection}
 use Rattle.space_engine.proofs.FieldWords.{nothing_at_zero}
-use Rattle.space_engine.proofs.Purges.{completed_view}
+use Rattle.space_engine.proofs.Purges.{completed_view, completed_is}
 
 module _ (v : View) (root : List ℕ) where
   written_again : (heap : HeapView) (finals : FinalLists) (is_new : Bool) (word : ℕ) → (IsTrue is_new → root_word v.roots root ≡ None) →
@@ -209,10 +210,13 @@ module _ (v : View) (s : State) (h : Holds v s) (rests : IsAtRest v.heap) (z : H
       IsHeapCollection v.heap v.finals z g Full words v.stack ended scans events
   same_collection c =
       let completes = same_completion c.idle g c.completion c.completes in
-      let to = completes_to v s h rests c.idle g ended c.completion completes in
-      let nothing = nothing_at_zero (completed_view v c.idle g) to.state to.holds in
+      let mid : View = completed_view v c.idle g in
+      let to : CompletesTo mid s ended c.completion = completes_to v s h rests mid ended c.completion
+      (record { rests = λ rests. record { heap = completes; rest = sym (completed_is v c.idle g) }; idle = c.at_idle }) in
+      let nothing = nothing_at_zero mid to.state to.holds in
       record {
         idle = c.idle;
+        at_idle = c.at_idle;
         completion = c.completion;
         completes = completes;
         told = c.told;

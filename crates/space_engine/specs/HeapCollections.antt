@@ -7,19 +7,21 @@ use Rattle.space_model.specs.declared.command.Command.TheVariants.{Minor as Mino
 use Rattle.space_model.specs.declared.event.Event.{Event}
 use Rattle.space_model.specs.declared.event.Kind.{Kind}
 use Rattle.space_model.specs.declared.event.Kind.TheVariants.{Minor, Major, Full}
-use Rattle.space_model.specs.declared.phase.Phase.TheVariants.{Marking}
+use Rattle.space_model.specs.declared.phase.Phase.TheVariants.{Idle, Marking}
 use Rattle.space_model.specs.Outputs.{Told}
 use Rattle.space_model.specs.Texts.{text_of}
 use Rattle.space_model.specs.Verdicts.{verdict_events}
 use Rattle.space_finals.specs.FinalLists.{FinalLists}
 use Rattle.space_heap.specs.HeapView.{HeapView}
 use Rattle.space_heap.specs.SoundHeap.{IsSoundHeap}
+use Rattle.space_roots.specs.WordRoots.{root_words}
 use Rattle.space_collector.specs.GoneNames.{gone_names}
 use Rattle.space_collector.specs.HeapVerdicts.{IsHeapVerdict}
 use Rattle.space_collector.specs.PagesSwept.{SweepsAll}
 use Rattle.space_collector.specs.Quiescent.{IsQuiescent}
 use Rattle.space_engine.specs.Counting.{no_counts, counts_of}
 use Rattle.space_engine.specs.Turns.{IsAtRest}
+use Rattle.space_engine.specs.Views.{View, with_completed, with_judged, with_swept, without_starts}
 
 -- a marking of the kind, with so many scans, and its verdict, of which these events tell. What it took waits for a sweep
 pub record IsTelling (old new : HeapView) (kind : Kind) (roots stack : List ℕ) (scans : ℕ) (events : List Event) : Type 0 where
@@ -47,44 +49,54 @@ pub record IsHeapCompletion (old : HeapView) (f : FinalLists) (idle : HeapView) 
   pub marking : old.phase ≡ Marking → EndsAndSweeps old f idle g roots stack scans events
   pub others : old.phase ≢ Marking → OnlySweeps old f idle g scans events
 
+-- outside a compaction: what was under way was completed so, and all else of the space is as that leaves it
+pub record CompletesAtRest (old new : View) (scans : ℕ) (events : List Event) : Type 0 where
+  pub heap : IsHeapCompletion old.heap old.finals new.heap new.finals (root_words old.roots) old.stack scans events
+  pub rest : new ≡ with_completed old new.heap new.finals
+
+-- what was under way was completed, with so many scans
+pub record IsCompletion (old new : View) (scans : ℕ) (events : List Event) : Type 0 where
+  pub rests : IsAtRest old.heap → CompletesAtRest old new scans events
+  pub idle : new.heap.phase ≡ Idle
+
+-- a collection: what was under way was completed, with scans of its own, and then came a marking of the kind and its verdict
+pub record IsCollected (old new : View) (kind : Kind) (ended scans : ℕ) (events : List Event) : Type 0 where
+  -- the space after the completion
+  pub idle : View
+  pub completion : List Event
+  pub completes : IsCompletion old idle ended completion
+  pub told : List Event
+  pub tells : IsTelling idle.heap new.heap kind (root_words idle.roots) idle.stack scans told
+  pub judged : new ≡ with_judged idle new.heap
+  pub events_are : events ≡ completion ++ told
+
+-- the same, and the ledger's count rose by the scans of both
+pub record IsTickedCollection (old new : View) (kind : Kind) (scans ticks ticked : ℕ) (events : List Event) : Type 0 where
+  pub ended : ℕ
+  pub collects : IsCollected old new kind ended scans events
+  pub rose : ticked ≡ ticks + ended + scans
+
 -- `exit` up to the finalizers that run: what was under way was completed, with scans of its own, and then came a whole marking without roots and
 -- stack words, its verdict, and sweeps of all pages
-pub record IsHeapExit (old : HeapView) (f : FinalLists) (new : HeapView) (g : FinalLists) (roots stack : List ℕ) (ended : ℕ) (events : List Event) : Type 0 where
-  -- the heap and the finalizers after the completion
-  pub idle : HeapView
-  pub queued : FinalLists
+pub record IsEmptied (old new : View) (ended : ℕ) (events : List Event) : Type 0 where
+  -- the space after the completion
+  pub idle : View
   pub completion : List Event
-  pub completes : IsHeapCompletion old f idle queued roots stack ended completion
+  pub completes : IsCompletion old idle ended completion
   -- the heap after the verdict
   pub judged : HeapView
   pub scans : ℕ
   pub told : List Event
-  pub tells : IsTelling idle judged Full [] [] scans told
-  pub sweeps : SweepsAll judged queued new g
+  pub tells : IsTelling idle.heap judged Full [] [] scans told
+  pub sweeps : SweepsAll judged idle.finals new.heap new.finals
+  pub swept : new ≡ with_swept (with_judged (without_starts idle) judged) new.heap new.finals
   pub events_are : events ≡ completion ++ told
 
 -- the same, and the ledger's count rose by the scans of both
-pub record IsTickedExit (old : HeapView) (f : FinalLists) (new : HeapView) (g : FinalLists) (roots stack : List ℕ) (ticks ticked : ℕ) (events : List Event) : Type 0 where
+pub record IsTickedExit (old new : View) (ticks ticked : ℕ) (events : List Event) : Type 0 where
   pub ended : ℕ
-  pub exits : IsHeapExit old f new g roots stack ended events
+  pub exits : IsEmptied old new ended events
   pub rose : ticked ≡ ticks + ended + exits.scans
-
--- a collection: what was under way was completed, with scans of its own, and then came a marking of the kind and its verdict
-pub record IsHeapCollection (old : HeapView) (f : FinalLists) (new : HeapView) (g : FinalLists) (kind : Kind) (roots stack : List ℕ) (ended scans : ℕ) (events : List Event) : Type 0 where
-  -- the heap after the completion
-  pub idle : HeapView
-  pub completion : List Event
-  pub completes : IsHeapCompletion old f idle g roots stack ended completion
-  pub told : List Event
-  pub tells : IsTelling idle new kind roots stack scans told
-  pub events_are : events ≡ completion ++ told
-
--- the same, and the ledger's count rose by the scans of both
-pub record IsTickedCollection (old : HeapView) (f : FinalLists) (new : HeapView) (g : FinalLists) (kind : Kind) (roots stack : List ℕ) (scans ticks ticked : ℕ)
-    (events : List Event) : Type 0 where
-  pub ended : ℕ
-  pub collects : IsHeapCollection old f new g kind roots stack ended scans events
-  pub rose : ticked ≡ ticks + ended + scans
 
 -- events of which this holds were written, and they tell of so many gone objects
 pub record AreTold (Are : List Event → Type 0) (gone : ℕ) (before after : Option (List ℕ)) : Type 0 where

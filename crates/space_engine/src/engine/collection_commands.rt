@@ -2,13 +2,12 @@
 ghost use Rattle.std.specs.Prelude.{◌≡◌, ◌≢◌, ◌<◌, ◌^◌, ℕ, IfOk, OnErr};
 ghost use Rattle.space_io.specs.Causes.{HasCause};
 ghost use Rattle.space_model.specs.declared.command.Command.{Command as TheCommand};
-ghost use Rattle.space_roots.specs.WordRoots.{root_words};
 ghost use Rattle.space_collector.specs.Quiescent.{most_slots};
 ghost use Rattle.space_engine.specs.Ticks.{RisesByFewer, most_ticks};
 ghost use Rattle.space_engine.specs.Answered.{IsAnswered, IsCutOff};
-ghost use Rattle.space_engine.specs.Turns.{CanAnswer, CanCompleteAndCollect, IsOneTurn};
+ghost use Rattle.space_engine.specs.Turns.{CanAnswer, CanCompleteAndCollect, IsAtRest, IsOneTurn};
 ghost use Rattle.space_engine.specs.Views.{with_finals, with_judged};
-ghost use Rattle.space_engine.specs.HeapCollections.{AreTold, AreCut, HasJudged, IsCollecting, IsHeapCollection, IsTickedCollection};
+ghost use Rattle.space_engine.specs.HeapCollections.{AreTold, AreCut, HasJudged, IsCollecting, IsCollected, IsTickedCollection};
 
 use super::{Answer, Engine};
 use space_collector::{Collected, collect, tell_gone};
@@ -28,10 +27,10 @@ impl Engine {
         requires able { CanCompleteAndCollect self.old.heap }
         requires other { kind ≢ Kind.Major }
         requires steps { steps.old < 2 ^ 61 }
-        ensures done { IfOk result (λ collected. AreTold (IsTickedCollection self.old.heap self.old.finals self.new.heap self.new.finals kind (root_words self.old.roots) self.old.stack collected.scans steps.old steps.new) collected.gone (K.written sink.old) (K.written sink.new)) }
-        ensures fault { OnErr result (AreCut (λ events. (ended scans : ℕ) × IsHeapCollection self.old.heap self.old.finals self.new.heap self.new.finals kind (root_words self.old.roots) self.old.stack ended scans events) (K.written sink.old) (K.written sink.new)) }
+        ensures done { IfOk result (λ collected. AreTold (IsTickedCollection self.old self.new kind collected.scans steps.old steps.new) collected.gone (K.written sink.old) (K.written sink.new)) }
+        ensures fault { OnErr result (AreCut (λ events. (ended scans : ℕ) × IsCollected self.old self.new kind ended scans events) (K.written sink.old) (K.written sink.new)) }
         ensures cause { HasCause (K.faults sink.old) (K.faults sink.new) result }
-        ensures rest { self.new ≡ with_finals (with_judged self.old self.new.heap) self.new.finals }
+        ensures rest { IsAtRest self.old.heap → self.new ≡ with_finals (with_judged self.old self.new.heap) self.new.finals }
         ensures judged { HasJudged 1 2 most_slots self.old.heap self.new.heap }
         ensures steps { RisesByFewer most_ticks steps.old steps.new }
     {

@@ -5,9 +5,9 @@ ghost use Rattle.space_model.specs.declared.event.Kind.TheVariants.{Major};
 ghost use Rattle.space_model.specs.declared.phase.Phase.TheVariants.{Idle};
 ghost use Rattle.space_roots.specs.WordRoots.{root_words};
 ghost use Rattle.space_collector.specs.Quiescent.{CanCollect, most_slots};
-ghost use Rattle.space_engine.specs.HeapCollections.{AreTold, AreCut, HasJudged, IsHeapCompletion, IsTelling};
+ghost use Rattle.space_engine.specs.HeapCollections.{AreTold, AreCut, HasJudged, IsCompletion, IsHeapCompletion, IsTelling};
 ghost use Rattle.space_engine.specs.Ticks.{RisesByFewer};
-ghost use Rattle.space_engine.specs.Turns.{CanCompleteAndCollect};
+ghost use Rattle.space_engine.specs.Turns.{CanCompleteAndCollect, IsAtRest};
 ghost use Rattle.space_engine.specs.Views.{with_completed, with_judged};
 
 use super::Engine;
@@ -48,9 +48,9 @@ impl Engine {
         Ok(ended)
     }
 
-    /// Completes what is under way: a marking is ended, and then each page that waits is swept. The answer is what ended the
-    /// marking. The pages are swept after a failed write too.
-    pub fn complete<K: Sink, L: Ledger>(
+    // Completes what is under way outside a compaction: a marking is ended, and then each page that waits is swept. The answer is
+    // what ended the marking. The pages are swept after a failed write too.
+    fn complete_at_rest<K: Sink, L: Ledger>(
         &mut self,
         sink: &mut K,
         steps: &mut Steps<L>,
@@ -74,5 +74,27 @@ impl Engine {
         };
         sweep_all(&mut self.heap, &mut self.finals);
         ended
+    }
+
+    /// Completes what is under way: a marking is ended, and each page that waits is swept. The answer is what ended the marking. All
+    /// of it is done after a failed write too.
+    pub fn complete<K: Sink, L: Ledger>(
+        &mut self,
+        sink: &mut K,
+        steps: &mut Steps<L>,
+    ) -> Result<Collected, WriteFault>
+        requires able { CanCompleteAndCollect self.old.heap }
+        requires steps { steps.old < 2 ^ 62 }
+        ensures done { IfOk result (λ ended. AreTold (IsCompletion self.old self.new ended.scans) ended.gone (K.written sink.old) (K.written sink.new)) }
+        ensures fault { OnErr result (AreCut (λ events. (scans : ℕ) × IsCompletion self.old self.new scans events) (K.written sink.old) (K.written sink.new)) }
+        ensures cause { HasCause (K.faults sink.old) (K.faults sink.new) result }
+        ensures judged { HasJudged 0 1 most_slots self.old.heap self.new.heap }
+        ensures idle { self.new.heap.phase ≡ Idle }
+        ensures rest { IsAtRest self.old.heap → self.new ≡ with_completed self.old self.new.heap self.new.finals }
+        ensures few { IfOk result (λ ended. ended.gone ≤ most_slots) }
+        ensures ticked { IfOk result (λ ended. steps.new ≡ steps.old + ended.scans) }
+        ensures steps { RisesByFewer (2 ^ 27) steps.old steps.new }
+    {
+        self.complete_at_rest(sink, steps)
     }
 }

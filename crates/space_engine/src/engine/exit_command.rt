@@ -8,14 +8,13 @@ ghost use Rattle.space_model.specs.declared.event.Kind.TheVariants.{Full};
 ghost use Rattle.space_model.specs.Outputs.{Told};
 ghost use Rattle.space_model.specs.Texts.{text_of};
 ghost use Rattle.space_model.specs.Verdicts.{verdict_events};
-ghost use Rattle.space_roots.specs.WordRoots.{root_words};
 ghost use Rattle.space_collector.specs.GoneNames.{gone_names};
 ghost use Rattle.space_collector.specs.Quiescent.{most_slots};
 ghost use Rattle.space_engine.specs.Answered.{IsWritten, IsWrittenInPart};
-ghost use Rattle.space_engine.specs.HeapCollections.{AreTold, AreCut, HasJudged, IsHeapExit, IsTickedExit};
+ghost use Rattle.space_engine.specs.HeapCollections.{AreTold, AreCut, HasJudged, IsEmptied, IsTickedExit};
 ghost use Rattle.space_engine.specs.Ticks.{RisesByFewer, most_ticks};
 ghost use Rattle.space_engine.specs.Turns.{CanAnswer, IsOneTurn};
-ghost use Rattle.space_engine.specs.Views.{with_finals, with_judged, without_starts};
+ghost use Rattle.space_engine.specs.Views.{without_starts};
 
 use super::Engine;
 use crate::counts::{Counts, NONE};
@@ -65,10 +64,9 @@ impl Engine {
     ) -> Result<u64, WriteFault>
         requires able { CanAnswer self.old.heap }
         requires steps { steps.old < 2 ^ 61 }
-        ensures done { IfOk result (λ gone. AreTold (IsTickedExit self.old.heap self.old.finals self.new.heap self.new.finals (root_words self.old.roots) self.old.stack steps.old steps.new) gone (K.written sink.old) (K.written sink.new)) }
-        ensures fault { OnErr result (AreCut (λ events. (ended : ℕ) × IsHeapExit self.old.heap self.old.finals self.new.heap self.new.finals (root_words self.old.roots) self.old.stack ended events) (K.written sink.old) (K.written sink.new)) }
+        ensures done { IfOk result (λ gone. AreTold (IsTickedExit self.old self.new steps.old steps.new) gone (K.written sink.old) (K.written sink.new)) }
+        ensures fault { OnErr result (AreCut (λ events. (ended : ℕ) × IsEmptied self.old self.new ended events) (K.written sink.old) (K.written sink.new)) }
         ensures cause { HasCause (K.faults sink.old) (K.faults sink.new) result }
-        ensures rest { self.new ≡ with_finals (with_judged (without_starts self.old) self.new.heap) self.new.finals }
         ensures judged { HasJudged 0 2 (2 * most_slots) self.old.heap self.new.heap }
         ensures steps { RisesByFewer most_ticks steps.old steps.new }
     {

@@ -14,10 +14,10 @@ returns-in_err-gone-clause-fault g c = λ v reserved.
     let first = c.collect_and_tell-collected in
     let second = c.allocate_at_limit-reply in
     let last = subst (λ (u : View). IsLastReply u second.new.self a.root.now a.is_new a.fields a.guard a.style second.result)
-    {y = with_finals (with_judged a.self.now first.new.self.heap) first.new.self.finals} first.ensures.rest second.ensures.last in
+    {y = with_finals (with_judged a.self.now first.new.self.heap) first.new.self.finals} (first.ensures.rest need.able.rests) second.ensures.last in
     on_err c.from_residual.result _
     (cut_off_late a.root.now a.fields a.guard a.style v a.self.now a.is_new reserved need.few need.full need.able.rests need.names
-    second.new.self first.new.self.heap first.new.self.finals second.result _ _ first.ensures.judged c.in_err-gone.ensures.fault last)
+    second.new.self first.new.self second.result _ _ first.ensures.judged c.in_err-gone.ensures.fault last)
 
 pub returns-in_err-gone-clause-work : goal.returns-in_err-gone-clause-work
 returns-in_err-gone-clause-work g c =
@@ -35,9 +35,9 @@ returns-clause-done g c = λ v reserved.
     let second = c.allocate_at_limit-reply in
     let told = c.in_ok-gone in
     let last = subst (λ (u : View). IsLastReply u second.new.self a.root.now a.is_new a.fields a.guard a.style second.result)
-    {y = with_finals (with_judged a.self.now first.new.self.heap) first.new.self.finals} first.ensures.rest second.ensures.last in
+    {y = with_finals (with_judged a.self.now first.new.self.heap) first.new.self.finals} (first.ensures.rest need.able.rests) second.ensures.last in
     answered_late a.root.now a.fields a.guard a.style v a.self.now a.is_new reserved need.few need.full need.able.rests need.names
-    second.new.self first.new.self.heap first.new.self.finals told.field-0.scans told.field-0.gone second.result _ _ _ _
+    second.new.self first.new.self told.field-0.scans told.field-0.gone second.result _ _ _ _
     told.ensures.done last
 
 pub returns-clause-work : goal.returns-clause-work

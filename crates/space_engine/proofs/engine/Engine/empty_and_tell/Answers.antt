@@ -5,12 +5,10 @@ use Rattle.space_roots.specs.WordRoots.{root_words}
 use Rattle.space_collector.specs.declared.collection.Collected.{Collected}
 use Rattle.space_collector.specs.HeapVerdicts.{IsHeapVerdict}
 use Rattle.space_collector.specs.PagesSwept.{SweepsAll}
-use Rattle.space_collector.proofs.QuiescentLaws.{none_gone}
 use Rattle.space_engine.specs.Inside.{view_of}
 use Rattle.space_engine.specs.Views.{View, with_judged, with_swept, without_starts}
 use Rattle.space_engine.proofs.CollectionCounts.{collection_judged, exit_judged}
 use Rattle.space_engine.proofs.ExitLines.{emptied_done, emptied_cut, cause_after}
-use Rattle.space_engine.proofs.Purges.{completed_as, exited_rest}
 use Rattle.space_engine.proofs.engine.Engine.empty_and_tell.Goals as goal
 use Rattle.space_engine.proofs.engine.Engine.empty_and_tell.Given as given
 
@@ -32,6 +30,14 @@ swept : (g : given.Over) (c : goal.After-sweep_all g) →
     SweepsAll c.collect-collected.new.heap c.complete-ended.new.self.finals c.sweep_all.new.heap c.sweep_all.new.finals
 swept g c = subst (λ (u : View). SweepsAll u.heap u.finals c.sweep_all.new.heap c.sweep_all.new.finals) (purged g c) c.sweep_all.ensures.swept
 
+-- and after the sweeps
+abbrev after : (g : given.Over) (c : goal.After-sweep_all g) → View
+after g c = with_swept (view_of c.self-2.inside) c.sweep_all.new.heap c.sweep_all.new.finals
+
+becomes : (g : given.Over) (c : goal.After-sweep_all g) →
+    after g c ≡ with_swept (with_judged (without_starts c.complete-ended.new.self) c.collect-collected.new.heap) c.sweep_all.new.heap c.sweep_all.new.finals
+becomes g c = ap (λ (v : View). with_swept v c.sweep_all.new.heap c.sweep_all.new.finals) (purged g c)
+
 pub sweep_all-requires-clause-few : goal.sweep_all-requires-clause-few
 sweep_all-requires-clause-few g c =
     let mid = c.complete-ended in
@@ -49,10 +55,9 @@ returns-clause-done g c =
     let old = c.args.self.now in
     let mid = c.complete-ended in
     let done = c.collect-collected in
-    let last = c.sweep_all.new in
     let told = ap (λ (v : View). v.heap) c.purge.ensures in
-    emptied_done old.heap old.finals mid.new.self.heap mid.new.self.finals done.new.heap last.heap last.finals (root_words old.roots) old.stack
-    done.result.scans (verdict g c) done.ensures.few (swept g c) (λ (e : Collected). e.scans) (λ (e : Collected). e.gone) _ _ _ mid.result
+    emptied_done old mid.new.self done.new.heap (after g c)
+    done.result.scans (verdict g c) done.ensures.few (swept g c) (becomes g c) (λ (e : Collected). e.scans) (λ (e : Collected). e.gone) _ _ _ mid.result
     c.tell_after-told.result done.result.gone _ _ _ mid.ensures.done mid.ensures.ticked done.ensures.gone done.ensures.ticked
     c.tell_after-told.ensures.told (rw told at c.tell_after-told.ensures.done)
 
@@ -61,26 +66,15 @@ returns-clause-fault g c =
     let old = c.args.self.now in
     let mid = c.complete-ended in
     let done = c.collect-collected in
-    let last = c.sweep_all.new in
     let told = ap (λ (v : View). v.heap) c.purge.ensures in
-    emptied_cut old.heap old.finals mid.new.self.heap mid.new.self.finals done.new.heap last.heap last.finals (root_words old.roots) old.stack
-    done.result.scans (verdict g c) done.ensures.few (swept g c) (λ (e : Collected). e.scans) (λ (e : Collected). e.gone) _ _ _ mid.result
+    emptied_cut old mid.new.self done.new.heap (after g c)
+    done.result.scans (verdict g c) done.ensures.few (swept g c) (becomes g c) (λ (e : Collected). e.scans) (λ (e : Collected). e.gone) _ _ _ mid.result
     c.tell_after-told.result mid.ensures.done mid.ensures.fault (rw told at c.tell_after-told.ensures.fault)
 
 pub returns-clause-cause : goal.returns-clause-cause
 returns-clause-cause g c =
     cause_after _ _ _ c.complete-ended.result c.tell_after-told.result c.complete-ended.ensures.cause c.tell_after-told.ensures.cause
     c.tell_after-told.ensures.calm c.tell_after-told.ensures.told
-
-pub returns-clause-rest : goal.returns-clause-rest
-returns-clause-rest g c =
-    let old = c.args.self.now in
-    let mid = c.complete-ended in
-    let heap = c.sweep_all.new.heap in
-    let finals = c.sweep_all.new.finals in
-    let clean = none_gone mid.new.self.heap mid.ensures.judged.quiescent (λ e. let idle = mid.ensures.idle in cc) in
-    exited_rest old mid.new.self (with_swept (view_of c.self-2.inside) heap finals) c.collect-collected.new.heap c.collect-collected.result.scans
-    (completed_as old mid.new.self mid.ensures.rest) clean (verdict g c) (swept g c) (ap (λ (v : View). with_swept v heap finals) (purged g c))
 
 pub returns-clause-judged : goal.returns-clause-judged
 returns-clause-judged g c =

@@ -11,7 +11,7 @@ returns-in-Err-clause-fault g c =
     let same = ap (λ (v : View). v.finals) c.self.view_is in
     let few : length mid.new.self.finals.queue ≤ c.len-waiting.result = few_wait _ _ _ same c.len-waiting.ensures in
     let most = c.len-waiting.type_inv in
-    exit_cut_off c.args.self.now mid.new.self c.drop_queue.new.self mid.ensures.rest c.drop_queue.ensures.rest c.requires.able
+    exit_cut_off c.args.self.now mid.new.self c.drop_queue.new.self c.drop_queue.ensures.rest c.requires.able
     c.drop_queue.ensures.spelled (omega (arith, few, most), tt) _ _ c.in-Err.ensures.fault
 
 pub returns-in_err-ran-clause-fault : goal.returns-in_err-ran-clause-fault
@@ -24,7 +24,7 @@ returns-in_err-ran-clause-fault g c =
     let all = take_all c.len-waiting.result queue few in
     let none = drop_of_length-le queue few in
     on_err c.from_residual.result _
-    (running_cut_off c.args.self.now mid.new.self c.run_and_tell.new.self mid.ensures.rest (rw none at c.run_and_tell.ensures.rest) c.requires.able
+    (running_cut_off c.args.self.now mid.new.self c.run_and_tell.new.self (rw none at c.run_and_tell.ensures.rest) c.requires.able
     (rw all at c.run_and_tell.ensures.spelled) (omega (arith, few, most), tt) c.in-Ok.gone _ _ _ _ c.in-Ok.ensures.done _
     (rw all at c.in_err-ran.ensures.fault))
 
@@ -39,7 +39,7 @@ returns-in_err-write_reply-clause-fault g c =
     let none = drop_of_length-le queue few in
     let many : c.in_ok-ran.ran ≡ length queue = c.in_ok-ran.ensures.ran ∙ ap length all in
     on_err c.from_residual-in_err-write_reply.result _
-    (reply_cut_off c.args.self.now mid.new.self c.run_and_tell.new.self mid.ensures.rest (rw none at c.run_and_tell.ensures.rest) c.requires.able
+    (reply_cut_off c.args.self.now mid.new.self c.run_and_tell.new.self (rw none at c.run_and_tell.ensures.rest) c.requires.able
     (rw all at c.run_and_tell.ensures.spelled) (omega (arith, few, most), tt) c.in-Ok.gone _ _ _ _ c.in-Ok.ensures.done _ _
     (rw all at c.in_ok-ran.ensures.done) (rw many at c.write_reply.ensures.prefix))
 
@@ -54,6 +54,6 @@ returns-clause-done g c =
     let none = drop_of_length-le queue few in
     let many : c.in_ok-ran.ran ≡ length queue = c.in_ok-ran.ensures.ran ∙ ap length all in
     rw many
-    (exit_written c.args.self.now mid.new.self c.run_and_tell.new.self mid.ensures.rest (rw none at c.run_and_tell.ensures.rest) c.requires.able
+    (exit_written c.args.self.now mid.new.self c.run_and_tell.new.self (rw none at c.run_and_tell.ensures.rest) c.requires.able
     (rw all at c.run_and_tell.ensures.spelled) (omega (arith, few, most), tt) c.in-Ok.gone _ _ _ _ c.in-Ok.ensures.done _ _
     (rw all at c.in_ok-ran.ensures.done) (rw many at c.in_ok-write_reply.ensures.bytes))
