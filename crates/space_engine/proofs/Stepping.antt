@@ -5,7 +5,7 @@ use Rattle.std.proofs.KnownBytes.{Appends-nil, Appends-trans}
 use Rattle.space_io.specs.Sinks.{AppendsPrefix}
 use Rattle.std.proofs.lemmas.List.{append-nil}
 use Rattle.space_model.specs.declared.command.Command.{Command}
-use Rattle.space_model.specs.declared.command.Command.TheVariants.{New, Minor, Gc, Major, Finish, Dump, Peek, Exit}
+use Rattle.space_model.specs.declared.command.Command.TheVariants.{New, Run, Minor, Gc, Major, Finish, Dump, Peek, Exit}
 use Rattle.space_model.specs.declared.event.Event.{Event}
 use Rattle.space_model.specs.declared.reply.Reply.{Reply}
 use Rattle.space_model.specs.declared.reply.Reply.TheVariants.{Made, Full, NoMemory, Done, Pushed, Read, Truth, Number, GoneId, Removed, RanCount}
@@ -21,11 +21,26 @@ use Rattle.space_engine.specs.Answered.{IsLawfulAnswer, IsAnswered, IsCutOff, Ar
 use Rattle.space_engine.specs.declared.counts.Counts.{Counts}
 use Rattle.space_engine.specs.Counting.{no_counts, reply_counts, sum_of_counts, counts_of}
 use Rattle.space_engine.specs.Stands.{Holds}
-use Rattle.space_engine.specs.Steps.{IsPlain, IsQuiet, Answers, AnswersWith, AreDone, LawfulSteps}
+use Rattle.space_engine.specs.Steps.{IsPlain, IsEventful, IsQuiet, Answers, AnswersWith, AreDone, LawfulSteps}
 use Rattle.space_engine.specs.Ticks.{IsReplyTicked, IsTicked, AreReplyTicked, AreTicked}
 use Rattle.space_engine.specs.Views.{View, SpaceView}
 use Rattle.space_engine.proofs.OutputLists.{counts_of-append, AreSpelled-append}
 use Rattle.space_collector.proofs.ToldLines.{text_of-append, prefix_after, prefix_longer}
+
+-- a command that gives one reply, after its events or with none
+pub eventful_plain : (command : Command) → IsEventful command → IsPlain command
+eventful_plain (Run count) eventful = absurd eventful
+eventful_plain Dump eventful = absurd eventful
+eventful_plain (Peek object) eventful = absurd eventful
+eventful_plain Exit eventful = absurd eventful
+eventful_plain command eventful = tt
+
+pub quiet_plain : (command : Command) → IsQuiet command → IsPlain command
+quiet_plain (Run count) quiet = absurd quiet
+quiet_plain Dump quiet = absurd quiet
+quiet_plain (Peek object) quiet = absurd quiet
+quiet_plain Exit quiet = absurd quiet
+quiet_plain command quiet = tt
 
 -- a command that told no events
 pub answered_silently : (old new : View) (command : Command) (reply : Reply) (known : Option (List ℕ)) (ticks ticked : ℕ) →

@@ -26,6 +26,15 @@ IsPlain (Peek object) = ⊥
 IsPlain Exit = ⊥
 IsPlain _ = Unit {0}
 
+-- the command tells events, and gives one reply
+abbrev pub IsEventful : Command → Type 0
+IsEventful (New root fields guard style) = Unit {0}
+IsEventful Minor = Unit {0}
+IsEventful Gc = Unit {0}
+IsEventful Major = Unit {0}
+IsEventful Finish = Unit {0}
+IsEventful _ = ⊥
+
 -- the command tells no events, and gives one reply
 abbrev pub IsQuiet : Command → Type 0
 IsQuiet (New root fields guard style) = ⊥

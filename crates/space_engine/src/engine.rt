@@ -6,7 +6,7 @@ ghost use Rattle.space_model.specs.State.{opening};
 ghost use Rattle.space_engine.specs.Ticks.{RisesByFewer, most_ticks};
 ghost use Rattle.space_engine.specs.Answered.{IsAnswered, IsCutOff, IsWritten, IsWrittenInPart};
 ghost use Rattle.space_engine.specs.Stands.{Holds};
-ghost use Rattle.space_engine.specs.Steps.{IsPlain};
+ghost use Rattle.space_engine.specs.Steps.{IsEventful, IsQuiet};
 ghost use Rattle.space_engine.specs.Turns.{CanAnswer, IsOneTurn};
 ghost use Rattle.space_engine.specs.Views.{empty_view};
 
@@ -103,15 +103,15 @@ impl Engine {
         self.heap.phase()
     }
 
-    // Answers a command that neither runs finalizers nor shows objects: its events are written, and its reply is the answer. An
-    // `Err` comes after a failed write; what the command does is done then too.
+    // Answers a command that tells events, which are written, and its reply is the answer. An `Err` comes after a failed write;
+    // what the command does is done then too.
     fn answer<K: Sink, L: Ledger>(
         &mut self,
         command: &Command,
         sink: &mut K,
         steps: &mut Steps<L>,
     ) -> Result<Answer, WriteFault>
-        requires plain { IsPlain command.now }
+        requires eventful { IsEventful command.now }
         requires given { IsGiven command.now }
         requires able { CanAnswer self.old.heap }
         requires steps { steps.old < 2 ^ 61 }
@@ -132,9 +132,10 @@ impl Engine {
             Command::Gc => self.collect_and_reply(Kind::Full, sink, steps),
             Command::Major => self.major(sink, steps),
             Command::Finish => self.finish(sink, steps),
-            _ => Ok(silent(self.reply(command, steps))),
+            _ => unreachable!(),
         }
     }
+
     // Answers such a command, and writes its reply too.
     fn answer_and_reply<K: Sink, L: Ledger>(
         &mut self,
@@ -142,7 +143,7 @@ impl Engine {
         sink: &mut K,
         steps: &mut Steps<L>,
     ) -> Result<Counts, WriteFault>
-        requires plain { IsPlain command.now }
+        requires eventful { IsEventful command.now }
         requires given { IsGiven command.now }
         requires able { CanAnswer self.old.heap }
         requires steps { steps.old < 2 ^ 61 }
@@ -155,6 +156,29 @@ impl Engine {
         let answer = self.answer(command, sink, steps)?;
         write_reply(&answer.reply, sink)?;
         Ok(counts_of_answer(&answer.reply, answer.gone))
+    }
+
+    // Replies to a command that tells no events, and writes the reply.
+    #[inline(always)]
+    fn reply_and_write<K: Sink, L: Ledger>(
+        &mut self,
+        command: &Command,
+        sink: &mut K,
+        steps: &mut Steps<L>,
+    ) -> Result<Counts, WriteFault>
+        requires quiet { IsQuiet command.now }
+        requires given { IsGiven command.now }
+        requires able { CanAnswer self.old.heap }
+        requires steps { steps.old < 2 ^ 61 }
+        ensures done { IfOk result (λ counts. IsWritten self.old self.new command.now counts (K.written sink.old) (K.written sink.new) steps.old steps.new) }
+        ensures fault { OnErr result (IsWrittenInPart self.old self.new command.now (K.written sink.old) (K.written sink.new)) }
+        ensures cause { HasCause (K.faults sink.old) (K.faults sink.new) result }
+        ensures turn { IsOneTurn self.old.heap self.new.heap }
+        ensures steps { RisesByFewer most_ticks steps.old steps.new }
+    {
+        let reply = self.reply(command, steps);
+        write_reply(&reply, sink)?;
+        Ok(counts_of_answer(&reply, 0))
     }
 
     /// Carries out a command: its outputs are written, and the answer counts them. An `Err` comes after a failed write; what
@@ -179,7 +203,9 @@ impl Engine {
             Command::Dump => self.dump(sink, steps),
             Command::Peek { object } => self.peek(object, sink, steps),
             Command::Exit => self.exit(sink, steps),
-            _ => self.answer_and_reply(command, sink, steps),
+            Command::New { .. } | Command::Minor | Command::Gc | Command::Major | Command::Finish =>
+                self.answer_and_reply(command, sink, steps),
+            _ => self.reply_and_write(command, sink, steps),
         }
     }
 }

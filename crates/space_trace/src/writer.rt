@@ -142,26 +142,26 @@ fn kind_bytes(kind: Kind) -> &'static [u8]
 }
 
 // Puts the event's line before its LF.
-fn put_event(line: &mut LineEnd, event: Event)
+fn put_event(line: &mut LineEnd, event: &Event)
     requires { line.old ≡ 10 ∷ [] }
-    ensures line { line.new ≡ line_of_pieces (event_pieces event) }
-    ensures spelled { IsSpelled (event_pieces event) }
+    ensures line { line.new ≡ line_of_pieces (event_pieces event.now) }
+    ensures spelled { IsSpelled (event_pieces event.now) }
 {
     match event {
         Event::Gone { name } => {
-            line.put_decimal(name);
+            line.put_decimal(*name);
             line.put(b"! gone #");
         }
         Event::Verdict { kind, gone } => {
-            line.put_decimal(gone);
+            line.put_decimal(*gone);
             line.put(b" ");
-            line.put(kind_bytes(kind));
+            line.put(kind_bytes(*kind));
             line.put(b"! verdict ");
         }
         Event::Ran { name, label } => {
             line.put(label.bytes());
             line.put(b" ");
-            line.put_decimal(name);
+            line.put_decimal(*name);
             line.put(b"! final #");
         }
     }
@@ -300,6 +300,7 @@ fn put_malformed(line: &mut LineEnd, number: u64)
 }
 
 /// Writes the line of the event. At an `Err` only a prefix of it was written, maybe none.
+#[inline(always)]
 pub fn write_event<K: Sink>(event: &Event, sink: &mut K) -> Result<(), WriteFault>
     ensures bytes { OnOk result (Appends (K.written sink.old) (K.written sink.new) (line_of_pieces (event_pieces event.now))) }
     ensures prefix { AppendsPrefix (K.written sink.old) (K.written sink.new) (line_of_pieces (event_pieces event.now)) }
@@ -308,7 +309,7 @@ pub fn write_event<K: Sink>(event: &Event, sink: &mut K) -> Result<(), WriteFaul
     ensures spelled { IsSpelled (event_pieces event.now) }
 {
     let mut line = line_end();
-    put_event(&mut line, *event);
+    put_event(&mut line, event);
     write_all(sink, line.bytes())
 }
 

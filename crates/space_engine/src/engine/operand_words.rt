@@ -24,6 +24,7 @@ impl Engine {
     }
 
     /// The value of a word, where it has one.
+    #[inline(always)]
     pub fn value_of_word(&self, word: u64) -> Option<Value>
         ensures { (s : State) → Holds self.now s → result ≡ word_value s.heap.place word }
     {
