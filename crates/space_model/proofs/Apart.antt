@@ -4,11 +4,11 @@ use mathlib.Core.List.{append_assoc}
 use Rattle.std.specs.Str.{bytes_eq}
 use Rattle.std.proofs.lemmas.Bool.Decides.{nat_tests}
 use Rattle.space_model.specs.declared.value.Value.TheVariants.{Nil, Small, Name}
-use Rattle.space_model.specs.declared.event.Event.TheVariants.{Gone, Verdict, Ran}
+use Rattle.space_model.specs.declared.event.Event.TheVariants.{Gone, Verdict, Moved, Ran}
 use Rattle.space_model.specs.declared.event.Kind.TheVariants.{Minor, Major, Full as FullKind}
-use Rattle.space_model.specs.declared.reply.Refusal.TheVariants.{TooLarge, NoRoot, NoWord, NotObject, NoField, Protected, NoId, NotMarking}
+use Rattle.space_model.specs.declared.reply.Refusal.TheVariants.{TooLarge, NoRoot, NoWord, NotObject, NoField, Protected, NoId, NotMarking, NotCompacting}
 use Rattle.space_model.specs.declared.reply.Reply.TheVariants.{Made, Full, NoMemory, Done, Pushed, Read, Truth, Number as NumberReply, GoneId, Removed, RanCount}
-use Rattle.space_model.specs.declared.reply.Reply.TheVariants.{Scanned, Marked, SweepCount, StatLine, Dumped, ExitRan, Refused}
+use Rattle.space_model.specs.declared.reply.Reply.TheVariants.{Scanned, Marked, SweepCount, MoveCount, FixCount, StatLine, Dumped, ExitRan, Refused}
 use Rattle.space_model.specs.declared.object.Style.{Style}
 use Rattle.space_model.specs.declared.object.Style.TheVariants.{Movable, Keeping}
 use Rattle.space_model.specs.declared.stat.Stat.{Stat}
@@ -65,16 +65,19 @@ last_text (t ∷ ts) = last_text ts
 -- one of each form but that of a dump, with these numbers and this last text
 abbrev pub forms : (ℕ → ℕ) → List ℕ → List ℕ → List Output
 forms n ns label =
-    Told (Gone (n 0)) ∷ Told (Verdict Minor (n 0)) ∷ Told (Verdict Major (n 0)) ∷ Told (Verdict FullKind (n 0)) ∷ Told (Ran (n 0) label)
+    Told (Gone (n 0)) ∷ Told (Verdict Minor (n 0)) ∷ Told (Verdict Major (n 0)) ∷ Told (Verdict FullKind (n 0)) ∷ Told (Moved (n 0) (n 1) (n 2))
+    ∷ Told (Ran (n 0) label)
     ∷ Replied (Made (n 0) (n 1)) ∷ Replied Full ∷ Replied NoMemory ∷ Replied Done
     ∷ Replied (Pushed (n 0) None) ∷ Replied (Pushed (n 0) (Some (n 1)))
     ∷ Replied (Read Nil) ∷ Replied (Read (Small (n 0))) ∷ Replied (Read (Name (n 0)))
     ∷ Replied (Truth true) ∷ Replied (Truth false)
     ∷ Replied (NumberReply (n 0)) ∷ Replied GoneId ∷ Replied (Removed (n 0)) ∷ Replied (RanCount (n 0))
-    ∷ Replied (Scanned (n 0)) ∷ Replied (Marked (n 0) (n 1)) ∷ Replied (SweepCount (n 0) (n 1)) ∷ Replied (StatLine (stat_of n))
+    ∷ Replied (Scanned (n 0)) ∷ Replied (Marked (n 0) (n 1)) ∷ Replied (SweepCount (n 0) (n 1))
+    ∷ Replied (MoveCount (n 0) true) ∷ Replied (MoveCount (n 0) false) ∷ Replied (FixCount (n 0) true) ∷ Replied (FixCount (n 0) false)
+    ∷ Replied (StatLine (stat_of n))
     ∷ Replied (Dumped (n 0)) ∷ Replied (ExitRan (n 0))
     ∷ Replied (Refused TooLarge) ∷ Replied (Refused NoRoot) ∷ Replied (Refused NoWord) ∷ Replied (Refused NotObject) ∷ Replied (Refused NoField)
-    ∷ Replied (Refused Protected) ∷ Replied (Refused NoId) ∷ Replied (Refused NotMarking)
+    ∷ Replied (Refused Protected) ∷ Replied (Refused NoId) ∷ Replied (Refused NotMarking) ∷ Replied (Refused NotCompacting)
     ∷ Peeked (n 0) (drop 1 ns) ∷ []
 
 abbrev pub pick : List Output → List Token → Option Output
@@ -282,6 +285,8 @@ clear (Told (Verdict Minor gone)) h = (refl, refl, refl, refl)
 clear (Replied (Pushed word None)) h = (refl, refl, refl, refl)
 clear (Replied (Read Nil)) h = (refl, refl, refl, refl)
 clear (Replied (Truth true)) h = (refl, refl, refl, refl)
+clear (Replied (MoveCount moved true)) h = (refl, refl, refl, refl)
+clear (Replied (FixCount fixed true)) h = (refl, refl, refl, refl)
 clear (Replied (Refused TooLarge)) h = (refl, refl, refl, refl)
 clear _ h = (refl, refl, refl, refl)
 

@@ -1,5 +1,5 @@
 -- The start of a marking, a verdict and sweeps keep states sound.
-use Rattle.std.proofs.Common.{◌≡◌, ◌≢◌, ℕ, zero, suc, true, List, ◌∷◌, nat_eq, sym, ◌∙◌, subst, arith, inl, Some}
+use Rattle.std.proofs.Common.{◌≡◌, ◌≢◌, ℕ, zero, suc, true, List, ◌∷◌, nat_eq, refl, sym, ◌∙◌, subst, arith, inl, Some}
 use Rattle.std.specs.Set.{is_member}
 use Rattle.std.specs.FinMap.{get}
 use Rattle.std.proofs.lemmas.Bool.{false_from_ne_true}
@@ -24,6 +24,7 @@ use Rattle.space_model.proofs.KeptNames.{SoundKept-verdict}
 use Rattle.space_model.proofs.LeftKept.{SoundLeft-none, SoundStale-none}
 use Rattle.space_model.proofs.MarkingKept.{sweeps_mark_none, SoundMarking-started}
 use Rattle.space_model.proofs.MapLaws.{held_without, left-without, present-without}
+use Rattle.space_model.proofs.MovesKept.{SoundMoves-still, sweeps_move_none, SoundMoves-same}
 use Rattle.space_model.proofs.PageLaws.{length-spared}
 use Rattle.space_model.proofs.ReachedLaws.{member-reached_names, reached_names-once}
 use Rattle.space_model.proofs.Reaching.{IsReached-start}
@@ -36,7 +37,9 @@ pub SoundMoments-started : (s : State) → SoundMoments (mark_started s)
 SoundMoments-started s = record { seen = λ n r. (member-reached_names s n).1 r; once = reached_names-once s; mixed = λ n m. m }
 
 pub Sound-mark_started : (s : State) → Sound s → Sound (mark_started s)
-Sound-mark_started s h = sound_of (mark_started s) (heap_of s h) h.names h.items h.roots (tables_of s h) (SoundMoments-started s)
+Sound-mark_started s h =
+    sound_of (mark_started s) (heap_of s h) (SoundMoves-same s (mark_started s) (λ e. e) refl refl h.moves) h.names h.items h.roots (tables_of s h)
+    (SoundMoments-started s)
     (λ e. SoundMarking-started s s.collector.vague (h.marking e).open_kept h.names)
 
 pub Sound-start : (s t : State) → StartMark s t → Sound s → Sound t
@@ -77,6 +80,7 @@ pub Sound-took : (s t : State) (kind : Kind) (taken : List ℕ) → s.collector.
     Took s kind taken t → Sound s → Sound t
 Sound-took s t kind taken a b v e h = after_piece (took s kind taken) t e (record {
   heap = took_heap s kind taken a b v h;
+  moves = SoundMoves-still (took s kind taken) (sweeps_move_none (pool_pages s.heap.pages));
   names = SoundNames-took s kind taken v h.names;
   items = h.items;
   roots = h.roots;
@@ -119,6 +123,7 @@ pub Sound-swept : (s t : State) (freed : List ℕ) → Sweep1 s freed t → Soun
 Sound-swept s t freed p h =
     after_piece (swept s p.page p.others freed) t p.after (record {
       heap = swept_heap s p.page p.others freed p.first (λ n a e q. (p.corpses.are n).1 (a, e, q)) h;
+      moves = SoundMoves-still (swept s p.page p.others freed) (sweeps_move_none p.others);
       names = h.names;
       items = h.items;
       roots = h.roots;

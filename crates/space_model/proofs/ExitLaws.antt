@@ -1,5 +1,5 @@
 -- What `exit` does to a state: it keeps it sound, and leaves nothing.
-use Rattle.std.proofs.Common.{◌≡◌, ℕ, true, List, [], ◌∷◌, ◌++◌, length, map, nat_eq, refl, sym, ap, ◌∙◌}
+use Rattle.std.proofs.Common.{◌≡◌, ℕ, true, false, List, [], ◌∷◌, ◌++◌, length, map, nat_eq, refl, sym, ap, ◌∙◌}
 use Rattle.std.specs.List.{IsDistinct}
 use Rattle.std.specs.Set.{is_member}
 use Rattle.std.specs.FinMap.{FinMap, get}
@@ -11,6 +11,7 @@ use Rattle.space_model.specs.declared.event.Kind.TheVariants.{Full}
 use Rattle.space_model.specs.declared.phase.Phase.TheVariants.{Idle}
 use Rattle.space_model.specs.declared.reply.Reply.{Reply}
 use Rattle.space_model.specs.declared.reply.Reply.TheVariants.{ExitRan}
+use Rattle.space_model.specs.Compaction.{IsPinned}
 use Rattle.space_model.specs.Completions.{Completes}
 use Rattle.space_model.specs.Exit.{starts_dropped, Exits, AnswersExit}
 use Rattle.space_model.specs.FinalCommands.{ran_events}
@@ -18,7 +19,7 @@ use Rattle.space_model.specs.Moments.{noted}
 use Rattle.space_model.specs.Outputs.{Told}
 use Rattle.space_model.specs.Roots.{root_names}
 use Rattle.space_model.specs.Sound.{Sound}
-use Rattle.space_model.specs.State.{State}
+use Rattle.space_model.specs.State.{State, is_present}
 use Rattle.space_model.specs.ToldInOrder.{AreToldInOrder}
 use Rattle.space_model.specs.Verdicts.{verdict_events}
 use Rattle.space_model.proofs.AfterPieces.{heap_of, tables_of, Sound-tables_replaced, after_piece}
@@ -26,10 +27,10 @@ use Rattle.space_model.proofs.CollectionsKept.{Sound-swept_all}
 use Rattle.space_model.proofs.CorpseNames.{freed_pages, swept_pages, SweepAll-there}
 use Rattle.space_model.proofs.EntryLaws.{all_left}
 use Rattle.space_model.proofs.Leaving.{leaves_swept, takes_of}
-use Rattle.space_model.proofs.MapLaws.{get-without}
+use Rattle.space_model.proofs.MovesKept.{SoundMoves-same}
 use Rattle.space_model.proofs.Queueing.{queues_none}
 use Rattle.space_model.proofs.Taking.{Takes, takes_then}
-use Rattle.space_model.proofs.ToldNames.{gone_among}
+use Rattle.space_model.proofs.ToldNames.{gone_among, moved_among, moved_among-append}
 use Rattle.space_model.proofs.WholeLaws.{Sound-completed, completed_idle, leaves_completed, Sound-collection, leaves_collection, unreached_names, collected_state, collects_there}
 
 pub no_root : (name : ℕ) → is_member nat_eq (root_names []) name ≡ true → ⊥
@@ -40,6 +41,7 @@ no_root name m = false≢true m
 Sound-starts_dropped : (s t : State) → t ≡ noted (starts_dropped s) → s.collector.phase ≡ Idle → Sound s → Sound t
 Sound-starts_dropped s t e idle h = after_piece (starts_dropped s) t e (record {
   heap = heap_of s h;
+  moves = SoundMoves-same s (starts_dropped s) (λ e. e) refl refl h.moves;
   names = record { children_present = h.names.children_present; roots_present = λ n m. absurd (no_root n m) };
   items = h.items;
   roots = tt;
@@ -81,6 +83,10 @@ pub gone_among-ran : (pairs : List (ℕ × List ℕ)) → gone_among (ran_events
 gone_among-ran [] = refl
 gone_among-ran (pair ∷ pairs) = gone_among-ran pairs
 
+pub moved_among-ran : (pairs : List (ℕ × List ℕ)) → moved_among (ran_events pairs) ≡ []
+moved_among-ran [] = refl
+moved_among-ran (pair ∷ pairs) = moved_among-ran pairs
+
 pub ran_in_order : (place : FinMap nat_cmp ℕ) (pairs : List (ℕ × List ℕ)) → AreToldInOrder place [] (map Told (ran_events pairs))
 ran_in_order place [] = refl
 ran_in_order place (pair ∷ pairs) = ran_in_order place pairs
@@ -92,7 +98,8 @@ takes_dropped s t e = record {
   present = λ n m. absurd (false≢true m);
   order = refl;
   once = tt;
-  place = λ n. ap (λ (u : State). get u.heap.place n) e ∙ sym (get-without s.heap.place [] n);
+  there = λ n. ap (λ (u : State). is_present u n) e;
+  place = λ n p. ap (λ (u : State). get u.heap.place n) e;
   graph = ap (λ (u : State). u.graph) e;
   limit = ap (λ (u : State). u.heap.limit) e;
   page_count = ap (λ (u : State). length u.heap.pages) e;
@@ -112,6 +119,7 @@ pub record ExitTakes (s : State) (events : List Event) (t : State) : Type 0 wher
   pub stack : t.stack ≡ []
   pub after : t ≡ record swept { tables = record swept.tables { queue = [] } }
   pub sound : Sound s → Sound swept
+  pub pinned : Sound s → (n : ℕ) → IsPinned s n → is_member nat_eq (moved_among told) n ≡ false
 
 pub exit_stack : (s t : State) (events : List Event) (ran : ℕ) (e : Exits s events ran t) → t.stack ≡ []
 exit_stack s t events ran e =
@@ -119,6 +127,19 @@ exit_stack s t events ran e =
     ∙ (leaves_swept _ e.collected e.swept e.freed e.sweeps).stack
     ∙ (leaves_collection e.dropped e.collected Full e.told e.scans e.collects).stack
     ∙ ap (λ (u : State). u.stack) e.drops
+
+-- only what was under way moves names, while all roots and stack words are there
+exit_pinned : (s t : State) (events : List Event) (ran : ℕ) (e : Exits s events ran t) → Sound s → (n : ℕ) → IsPinned s n →
+    is_member nat_eq (moved_among (e.completion ++ (e.told ++ []))) n ≡ false
+exit_pinned s t events ran e h n pin =
+    let completed = leaves_completed s e.idle e.completion e.completes in
+    let collected = leaves_collection e.dropped e.collected Full e.told e.scans e.collects in
+    let idle : e.dropped.collector.phase ≡ Idle =
+    ap (λ (u : State). u.collector.phase) e.drops ∙ completed_idle s e.idle e.completion e.completes h in
+    let later : moved_among (e.told ++ []) ≡ [] = ap moved_among (append-nil e.told) ∙ collected.unmoving (λ moves. cc) in
+    let all : moved_among (e.completion ++ (e.told ++ [])) ≡ moved_among e.completion =
+    moved_among-append e.completion (e.told ++ []) ∙ ap (λ names. moved_among e.completion ++ names) later ∙ append-nil (moved_among e.completion) in
+    ap (λ names. is_member nat_eq names n) all ∙ completed.pinned n pin
 
 pub exit_takes : (s t : State) (events : List Event) (ran : ℕ) → Exits s events ran t → ExitTakes s events t
 exit_takes s t events ran e =
@@ -138,6 +159,7 @@ exit_takes s t events ran e =
       stack = exit_stack s t events ran e;
       after = e.after;
       sound = swept_sound s t events ran e;
+      pinned = exit_pinned s t events ran e;
     }
   where
     regroup : (a b c : List Event) → a ++ b ++ c ≡ (a ++ (b ++ [])) ++ c

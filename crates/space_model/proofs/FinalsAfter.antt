@@ -5,7 +5,7 @@ use Rattle.std.specs.Set.{is_member}
 use Rattle.std.proofs.lemmas.Bool.{false≢true}
 use Rattle.std.proofs.lemmas.List.{take-append-drop}
 use Rattle.space_model.specs.declared.command.Command.{Command}
-use Rattle.space_model.specs.declared.command.Command.TheVariants.{New, Final, Unfinal, Run, Minor, Gc, Major, Finish, Dump, Peek, Exit}
+use Rattle.space_model.specs.declared.command.Command.TheVariants.{New, Final, Unfinal, Run, Minor, Gc, Major, Finish, Compact, Move, Dump, Peek, Exit}
 use Rattle.space_model.specs.declared.event.Event.{Event}
 use Rattle.space_model.specs.declared.event.Kind.{Kind}
 use Rattle.space_model.specs.declared.event.Kind.TheVariants.{Minor as MinorKind, Full as FullKind}
@@ -15,6 +15,7 @@ use Rattle.space_model.specs.declared.reply.Refusal.{Refusal}
 use Rattle.space_model.specs.declared.reply.Reply.{Reply}
 use Rattle.space_model.specs.declared.reply.Reply.TheVariants.{Made, Full, NoMemory, RanCount, Scanned, ExitRan, Refused}
 use Rattle.space_model.specs.Collections.{Collects}
+use Rattle.space_model.specs.CompactCommands.{AnswersCompact}
 use Rattle.space_model.specs.Exit.{AnswersExit}
 use Rattle.space_model.specs.FinalCommands.{FinalReply, UnfinalReply, RunsFinals, ran_events}
 use Rattle.space_model.specs.FinalLaws.{ChangesFinals, AreQueued}
@@ -27,13 +28,14 @@ use Rattle.space_model.specs.Outputs.{Output, ran_in}
 use Rattle.space_model.specs.Pieces.{Born}
 use Rattle.space_model.specs.Sound.{Sound, IsSweptName}
 use Rattle.space_model.specs.State.{State}
+use Rattle.space_model.proofs.CompactionNames.{leaves_move_answer, leaves_fix_answer}
 use Rattle.space_model.proofs.ExitLaws.{exit_takes}
 use Rattle.space_model.proofs.FinalNames.{names-take}
 use Rattle.space_model.proofs.Leaving.{Leaves, leaves_swept}
 use Rattle.space_model.proofs.MajorLaws.{major_leaves, finish_leaves}
-use Rattle.space_model.proofs.PlacesAfter.{effects_after, runs_none}
+use Rattle.space_model.proofs.PlacesAfter.{leaves_before_moves, effects_after, runs_none}
 use Rattle.space_model.proofs.Queueing.{ran_among, ran_among-append, ran_outputs, ran_among-ran, Queues, queues_none}
-use Rattle.space_model.proofs.RepliedPieces.{IsPiece, Nothing, Root, Dropped, Stack, Field, Guard as GuardPiece, Tabled, Swept, Scans, replied_piece}
+use Rattle.space_model.proofs.RepliedPieces.{IsPiece, Nothing, Root, Dropped, Stack, Field, Guard as GuardPiece, Tabled, Swept, Scans, Fixed, replied_piece}
 use Rattle.space_model.proofs.Stages.{passed_leaves, place_leaves}
 use Rattle.space_model.proofs.WholeLaws.{leaves_collection}
 
@@ -77,6 +79,7 @@ module _ (s t : State) (events : List Event) where
   })
   piece_finals command other none (Swept pages freed sweeps) = worked (subst (λ events. Leaves s events t) (sym none) (leaves_swept pages s t freed sweeps))
   piece_finals command other none (Scans scans few after) = same_tables none (ap (λ (u : State). u.tables) after)
+  piece_finals command other none (Fixed count reply fixes) = worked (subst (λ events. Leaves s events t) (sym none) (leaves_fix_answer s t count reply fixes))
 
   -- an object is made after work of the collector
   made_finals : (ready : State) (root : List ℕ) (fields : ℕ) (guard : Guard) (style : Style) (address : ℕ) → Leaves s events ready →
@@ -102,6 +105,18 @@ module _ (s t : State) (events : List Event) where
   collects_finals : (kind : Kind) (reply : Reply) → Collects s kind events reply t → FinalsAfter s events t
   collects_finals kind (Scanned scans) e = worked (leaves_collection s t kind events scans e)
   collects_finals kind _ e = absurd e
+
+  -- a compaction begins after a collection
+  compact_finals : (reply : Reply) → AnswersCompact s events reply t → FinalsAfter s events t
+  compact_finals (Scanned scans) e =
+      let before = leaves_before_moves s events scans t e in
+      none_ran before.silent (record {
+        queued = before.queues.queued;
+        defined = λ name.
+            ap (λ (u : State). labels_of before.queues.queued name ++ labels_of u.tables.finals name) e.begins ∙ before.queues.defined name;
+        queue = ap (λ (u : State). u.tables.queue) e.begins ∙ before.queues.queue;
+      })
+  compact_finals _ e = absurd e
 
   -- finalizers that wait run
   runs_finals : (count : ℕ) (reply : Reply) → RunsFinals s count events reply t → FinalsAfter s events t
@@ -165,6 +180,8 @@ effects_finals s t Minor events answer e other = collects_finals s t events Mino
 effects_finals s t Gc events answer e other = collects_finals s t events FullKind e.reply e.is
 effects_finals s t Major events answer e other = worked s t events (major_leaves s t events e.reply e.is)
 effects_finals s t Finish events answer e other = worked s t events (finish_leaves s t events e.reply e.is)
+effects_finals s t Compact events answer e other = compact_finals s t events e.reply e.is
+effects_finals s t (Move count) events answer e other = worked s t events (leaves_move_answer s t count events e.reply e.is)
 effects_finals s t Dump events answer e other = same_state s t events e.0 e.1.unchanged
 effects_finals s t (Peek object) events answer e other = same_state s t events e.0 e.1.1
 effects_finals s t Exit events answer e other = exit_finals s t events e.reply e.is

@@ -9,12 +9,15 @@ use Rattle.std.proofs.Math.Nat.{add_left_cancel, mul-div_cancel_left}
 use Rattle.std.proofs.lemmas.Bool.{false≢true, false_from_ne_true, or_cases, or_left, or_right, eqb-true, eq-eqb, cases_eq}
 use Rattle.std.proofs.lemmas.Nat.{pow_pos}
 use Rattle.space_model.specs.declared.event.Event.{Event}
+use Rattle.space_model.specs.declared.event.Kind.{Kind}
 use Rattle.space_model.specs.declared.event.Kind.TheVariants.{Full}
 use Rattle.space_model.specs.declared.object.Guard.{Guard}
 use Rattle.space_model.specs.declared.object.Style.{Style}
-use Rattle.space_model.specs.declared.phase.Phase.TheVariants.{Idle}
+use Rattle.space_model.specs.declared.phase.Phase.TheVariants.{Idle, Moving}
 use Rattle.space_model.specs.declared.reply.Reply.{Reply}
 use Rattle.space_model.specs.declared.reply.Reply.TheVariants.{Made, NoMemory, Refused, Full as FullReply}
+use Rattle.space_model.specs.Collections.{IsCollection}
+use Rattle.space_model.specs.Completions.{Completes}
 use Rattle.space_model.specs.Counts.{CountIs}
 use Rattle.space_model.specs.Layout.{page_bytes, slot_address, slot_bytes, page_slots, page_of, pool_for}
 use Rattle.space_model.specs.Idents.{IsIdent}
@@ -29,13 +32,14 @@ use Rattle.space_model.specs.State.{State, is_present}
 use Rattle.space_model.specs.Sweeps.{sweep_phase, Sweeps}
 use Rattle.space_model.proofs.CollectionsKept.{Sound-sweeps}
 use Rattle.space_model.proofs.Growing.{IsDistinct-cons}
-use Rattle.space_model.proofs.Leaving.{leaves_reach, leaves_swept}
+use Rattle.space_model.proofs.Leaving.{leaves_reach, leaves_marked, sweeps_not_moving, leaves_swept, leaves_taken}
 use Rattle.space_model.proofs.PageLaws.{page_of-slot_address}
 use Rattle.space_model.proofs.ReachedLaws.{member-keys}
 use Rattle.space_model.proofs.SweepKept.{no_corpse}
-use Rattle.space_model.proofs.Stages.{in_need_sweeps, passed_leaves, IsSweptInVain, CollectedInVain, passed_all}
+use Rattle.space_model.proofs.Stages.{in_need_sweeps, compaction_sound, compaction_ends, passed_leaves, IsSweptInVain, IsTriedInVain, CollectedInVain, passed_all}
 use Rattle.space_model.proofs.SweptLaws.{Sweeps-place, Sweeps-phase}
-use Rattle.space_model.proofs.WholeLaws.{Sound-collection, counted_also, collection_phase, collection_leaves, leaves_collection, leaves_completed}
+use Rattle.space_model.proofs.ToldNames.{moved_among, moved_verdict_events}
+use Rattle.space_model.proofs.WholeLaws.{Sound-collection, counted_also, collection_phase, collection_leaves, leaves_completed}
 
 -- slots up to a number, where each has a name of its own: the names at them are as many
 module _ (IsAt : ℕ → ℕ → Type 0) (one_slot : (i j n : ℕ) → IsAt i n → IsAt j n → i ≡ j) (one_name : (i m n : ℕ) → IsAt i m → IsAt i n → m ≡ n) where
@@ -160,6 +164,26 @@ module _ (t : State) (pool : ℕ) (h : Sound t) (none_waits : t.heap.unswept ≡
       has_pool None e = absurd (none_spare page (below, e))
       has_pool (Some q) e = ap is_some e
 
+-- what is reached after what was under way is completed was reached before, where no objects were being moved
+completed_before : (s t : State) (events : List Event) → s.collector.phase ≢ Moving → Completes s events t → (n : ℕ) → Reach t n → Reach s n
+completed_before s t events rests completes n r =
+    let left = leaves_completed s t events completes in (leaves_reach s events t left (left.unmoving rests) n).0 r
+
+-- what is reached after a collection is what was reached when its marking started
+collected_reach : (s t : State) (kind : Kind) (events : List Event) (scans : ℕ) (c : IsCollection s kind events scans t) → (n : ℕ) →
+    Reach t n ↔ Reach c.idle n
+collected_reach s t kind events scans c n =
+    let marked = leaves_reach c.idle [] c.marked (leaves_marked c.idle c.marked c.starts) refl n in
+    let unmoved = ap moved_among c.verdict.events_are ∙ moved_verdict_events kind c.taken in
+    let taken = leaves_reach c.marked c.told t (leaves_taken c.marked kind c.taken c.told t c.verdict) unmoved n in
+    ((λ r. marked.0 (taken.0 r)), (λ r. taken.1 (marked.1 r)))
+
+-- sweeps begin no moves
+still_moves : (pages : ℕ) (s t : State) (freed : List ℕ) → Sweeps pages s freed t → s.collector.phase ≢ Moving → t.collector.phase ≢ Moving
+still_moves zero s t freed (none, same) rests = subst (λ (u : State). u.collector.phase ≢ Moving) (sym same) rests
+still_moves (suc pages) s t freed (now, later, mid, both, step, more) rests =
+    still_moves pages mid t later more (subst (λ (u : State). u.collector.phase ≢ Moving) (sym step.after) (sweeps_not_moving step.others))
+
 -- sweeps in vain
 module _ (s : State) (pool : ℕ) (t : State) (v : IsSweptInVain s pool t) where
   vain_sweeps : (freed : List ℕ) × Sweeps v.pages s freed t
@@ -169,7 +193,11 @@ module _ (s : State) (pool : ℕ) (t : State) (v : IsSweptInVain s pool t) where
   vain_sound h = Sound-sweeps v.pages s t vain_sweeps.0 vain_sweeps.1 h
 
   vain_reach : (n : ℕ) → Reach t n ↔ Reach s n
-  vain_reach n = leaves_reach s [] t (leaves_swept v.pages s t vain_sweeps.0 vain_sweeps.1) n
+  vain_reach n = leaves_reach s [] t (leaves_swept v.pages s t vain_sweeps.0 vain_sweeps.1) refl n
+
+  -- where no objects are being moved, none are after them
+  vain_rests : s.collector.phase ≢ Moving → t.collector.phase ≢ Moving
+  vain_rests rests = still_moves v.pages s t vain_sweeps.0 vain_sweeps.1 rests
 
   vain_present : (n : ℕ) → is_present t n ≡ is_present s n
   vain_present n = ap (λ place. is_some (get place n)) (Sweeps-place v.pages s t vain_sweeps.0 vain_sweeps.1)
@@ -178,10 +206,28 @@ module _ (s : State) (pool : ℕ) (t : State) (v : IsSweptInVain s pool t) where
   vain_idle : s.collector.phase ≡ sweep_phase s.heap.unswept → t.collector.phase ≡ Idle
   vain_idle e = Sweeps-phase v.pages s t vain_sweeps.0 vain_sweeps.1 e ∙ ap sweep_phase v.none_waits
 
+-- all that comes before a page, in vain
+module _ (s : State) (pool : ℕ) (events : List Event) (t : State) (v : IsTriedInVain s pool events t) where
+  tried_sound : Sound s → Sound t
+  tried_sound h = compaction_sound v.swept events t v.completes (vain_sound s pool v.swept v.vain h)
+
+  -- no objects are being moved after it
+  tried_rests : Sound s → t.collector.phase ≢ Moving
+  tried_rests h moves = compaction_ends v.swept events t v.completes (vain_sound s pool v.swept v.vain h) (inl moves)
+
+  -- what is reached after it was reached before, where no objects were being moved
+  tried_reach : s.collector.phase ≢ Moving → (n : ℕ) → Reach t n → Reach s n
+  tried_reach rests n r =
+      (vain_reach s pool v.swept v.vain n).0
+      (⊎_elim
+      (λ (_, completes). completed_before v.swept t events (vain_rests s pool v.swept v.vain rests) completes n r)
+      (λ (_, none, same). subst (λ (u : State). Reach u n) same r)
+      v.completes)
+
 -- a whole collection in vain
-module _ (s t : State) (pool : ℕ) (events : List Event) (c : CollectedInVain s pool events t) where
+module _ (s t : State) (pool : ℕ) (c : CollectedInVain s pool t) where
   limited_sound : Sound s → Sound c.limited
-  limited_sound h = vain_sound s pool c.limited c.at_limit.vain h
+  limited_sound h = tried_sound s pool c.first c.limited c.at_limit.vain h
 
   in_vain_sound : Sound s → Sound t
   in_vain_sound h = vain_sound c.collected pool t c.vain (Sound-collection c.limited c.collected Full c.told c.scans c.collects (limited_sound h))
@@ -189,45 +235,44 @@ module _ (s t : State) (pool : ℕ) (events : List Event) (c : CollectedInVain s
   in_vain_idle : t.collector.phase ≡ Idle
   in_vain_idle = vain_idle c.collected pool t c.vain (collection_phase c.limited c.collected Full c.told c.scans c.collects)
 
-  -- what is reached after it was reached after the completion that it began with, and before
-  idle_reach : (n : ℕ) → Reach c.collects.idle n ↔ Reach c.limited n
-  idle_reach n = leaves_reach c.limited c.collects.completion c.collects.idle
-      (leaves_completed c.limited c.collects.idle c.collects.completion c.collects.completes) n
-
-  after_reach : (n : ℕ) → Reach t n ↔ Reach c.limited n
-  after_reach n =
-      let last = vain_reach c.collected pool t c.vain n in
-      let now = leaves_reach c.limited c.told c.collected (leaves_collection c.limited c.collected Full c.told c.scans c.collects) n in
-      ((λ r. now.0 (last.0 r)), (λ r. last.1 (now.1 r)))
-
-  -- what is present after it was reached before it
-  after_present : Sound s → (n : ℕ) → (is_present t n ≡ true) ↔ Reach c.limited n
+  -- what is present after it was reached when its marking started
+  after_present : Sound s → (n : ℕ) → (is_present t n ≡ true) ↔ Reach c.collects.idle n
   after_present h n =
       let there = collection_leaves c.limited c.collected c.told c.scans c.collects (limited_sound h) n in
       let same = vain_present c.collected pool t c.vain n in
-      let before = idle_reach n in
-      ((λ p. before.0 (there.0 (sym same ∙ p))), (λ r. same ∙ there.1 (before.1 r)))
+      ((λ p. there.0 (sym same ∙ p)), (λ r. same ∙ there.1 r))
+
+  -- and is reached after it
+  after_reach : (n : ℕ) → Reach t n ↔ Reach c.collects.idle n
+  after_reach n =
+      let last = vain_reach c.collected pool t c.vain n in
+      let now = collected_reach c.limited c.collected Full c.told c.scans c.collects n in
+      ((λ r. now.0 (last.0 r)), (λ r. last.1 (now.1 r)))
 
 -- so the answer `full` tells the truth
 pub full_is_full : (s t : State) (fields : ℕ) (events : List Event) → MakesNone s fields events t → Sound s → FullAt t (pool_for fields)
 full_is_full s t fields events e h =
     let c = passed_all s (pool_for fields) events t e.passed in
-    let sound = in_vain_sound s t (pool_for fields) events c h in
-    let idle = in_vain_idle s t (pool_for fields) events c in
+    let sound = in_vain_sound s t (pool_for fields) c h in
+    let idle = in_vain_idle s t (pool_for fields) c in
     record {
-      reached = λ n. let there = after_present s t (pool_for fields) events c h n in
-          let same = after_reach s t (pool_for fields) events c n in
+      reached = λ n. let there = after_present s t (pool_for fields) c h n in
+          let same = after_reach s t (pool_for fields) c n in
           ((λ p. same.1 (there.0 p)), (λ r. there.1 (same.0 r)));
       limit = e.limit;
       used = page_used t (pool_for fields) sound c.vain.none_waits idle c.vain.none_free c.none_spare;
       filled = page_filled t (pool_for fields) sound c.vain.none_waits idle c.vain.none_free;
     }
 
--- and nothing is present then but what was reached before
-pub full_leaves : (s t : State) (fields : ℕ) (events : List Event) → MakesNone s fields events t → Sound s → (n : ℕ) → is_present t n ≡ true → Reach s n
-full_leaves s t fields events e h n p =
+-- and nothing is present then but what was reached before, where no objects were being moved
+pub full_leaves : (s t : State) (fields : ℕ) (events : List Event) → MakesNone s fields events t → Sound s → s.collector.phase ≢ Moving → (n : ℕ) →
+    is_present t n ≡ true → Reach s n
+full_leaves s t fields events e h rests n p =
     let c = passed_all s (pool_for fields) events t e.passed in
-    (vain_reach s (pool_for fields) c.limited c.at_limit.vain n).0 ((after_present s t (pool_for fields) events c h n).0 p)
+    let tried = c.at_limit.vain in
+    tried_reach s (pool_for fields) c.first c.limited tried rests n
+    (completed_before c.limited c.collects.idle c.collects.completion (tried_rests s (pool_for fields) c.first c.limited tried h) c.collects.completes n
+    ((after_present s t (pool_for fields) c h n).0 p))
 
 -- where no object is made, nothing of the graph, of the stack and of the roots is changed
 same_parts : (s t : State) → t.graph ≡ s.graph → t.roots ≡ s.roots → t.stack ≡ s.stack →

@@ -6,12 +6,13 @@ use Rattle.std.proofs.lemmas.Bool.{cases_eq}
 use Rattle.std.proofs.lemmas.Bool.Decides.{nat_tests}
 use Rattle.std.proofs.lemmas.Grind.{common_steps}
 use Rattle.std.proofs.lemmas.List.{length-replicate, length-append}
+use Rattle.space_model.specs.declared.event.Event.{Event}
 use Rattle.space_model.specs.declared.object.Guard.{Guard}
 use Rattle.space_model.specs.declared.object.Style.{Style}
 use Rattle.space_model.specs.declared.value.Value.TheVariants.{Nil}
 use Rattle.space_model.specs.Graph.{Item}
 use Rattle.space_model.specs.Layout.{page_of, pool_for, slot_address, page_slots, slot_bytes}
-use Rattle.space_model.specs.NewCommand.{Stage, FreeAddress, WaitingPages, FreshPage, Collection, Finds}
+use Rattle.space_model.specs.NewCommand.{Stage, FreeAddress, WaitingPages, CompletedCompaction, FreshPage, Collection, Finds}
 use Rattle.space_model.specs.Pages.{pool_at, with_pool}
 use Rattle.space_model.specs.Pieces.{new_item}
 use Rattle.space_model.specs.Places.{pool_of, IsSlot, IsNewAt, IsFreshPage}
@@ -68,11 +69,13 @@ abbrev pub IsFoundAt : State → ℕ → ℕ → Type 0
 IsFoundAt s pool address = IsNewAt s pool address ⊎ IsFirstOfFresh s pool address
 
 -- so is the address that a stage finds, in the state that it leaves
-pub found_at : (stage : Stage) (s : State) (pool : ℕ) (t : State) (address : ℕ) → Finds stage s pool t address → IsFoundAt t pool address
-found_at FreeAddress s pool t address (same, new) = inl new
-found_at WaitingPages s pool t address (pages, sweeps, new) = inl new
-found_at FreshPage s pool t address (same, page, fresh, is) = inr (page, fresh, is)
-found_at Collection s pool t address found = absurd found
+pub found_at : (stage : Stage) (s : State) (pool : ℕ) (events : List Event) (t : State) (address : ℕ) → Finds stage s pool events t address →
+    IsFoundAt t pool address
+found_at FreeAddress s pool events t address (none, same, new) = inl new
+found_at WaitingPages s pool events t address (none, pages, sweeps, new) = inl new
+found_at CompletedCompaction s pool events t address (compacting, completes, new) = inl new
+found_at FreshPage s pool events t address (none, same, page, fresh, is) = inr (page, fresh, is)
+found_at Collection s pool events t address found = absurd found
 
 free_slot : (s : State) (fields address : ℕ) → SoundLayout s.graph s.heap.place s.heap.pages s.heap.limit → IsNewAt s (pool_for fields) address →
     IsFreshSlot s (pool_for fields) address

@@ -26,13 +26,13 @@ use Rattle.space_model.specs.State.{State, WeakEntry, is_present}
 use Rattle.space_model.proofs.ExitLaws.{dropped_sound, swept_sound, no_root, exit_stack, exit_takes}
 use Rattle.space_model.proofs.FinalNames.{labels_of-append, none_named}
 use Rattle.space_model.proofs.FinalsAfter.{run_once}
-use Rattle.space_model.proofs.Leaving.{leaves_swept}
+use Rattle.space_model.proofs.Leaving.{leaves_swept, leaves_reach}
 use Rattle.space_model.proofs.MapLaws.{some_get}
 use Rattle.space_model.proofs.PageLaws.{user}
 use Rattle.space_model.proofs.Reaching.{IsReached-least}
 use Rattle.space_model.proofs.SweepKept.{no_corpse}
 use Rattle.space_model.proofs.SweptLaws.{Sweeps-place, SweepAll-swept}
-use Rattle.space_model.proofs.WholeLaws.{collection_leaves, collection_phase, leaves_collection, completed_reach}
+use Rattle.space_model.proofs.WholeLaws.{collection_leaves, collection_phase, leaves_collection, completed_idle, leaves_completed}
 
 -- no entry is left where nothing is present
 no_entries : (place : FinMap nat_cmp ℕ) (entries : List WeakEntry) → ((n : ℕ) → is_some (get place n) ≡ true → ⊥) → AreSoundEntries place entries → entries ≡ []
@@ -65,8 +65,11 @@ module _ (s t : State) (events : List Event) (ran : ℕ) (e : Exits s events ran
       let there : is_present e.collected n ≡ true =
       ap (λ place. is_some (get place n)) (sym (Sweeps-place _ e.collected e.swept e.freed e.sweeps)) ∙ p in
       let reached = (collection_leaves e.dropped e.collected e.told e.scans e.collects (dropped_sound s t events ran e h) n).0 there in
+      let left = leaves_completed e.dropped e.collects.idle e.collects.completion e.collects.completes in
+      let rests : e.dropped.collector.phase ≡ Idle =
+      ap (λ (u : State). u.collector.phase) e.drops ∙ completed_idle s e.idle e.completion e.completes h in
       none_reached e.dropped (ap (λ (u : State). u.roots) e.drops) (ap (λ (u : State). u.stack) e.drops) n
-      ((completed_reach e.dropped e.collects.idle e.collects.completion e.collects.completes n).0 reached)
+      ((leaves_reach e.dropped e.collects.completion e.collects.idle left (left.unmoving (λ moves. cc)) n).0 reached)
 
   resting : e.swept.collector.phase ≡ Idle
   resting = (SweepAll-swept e.collected e.swept e.freed e.sweeps).phase (collection_phase e.dropped e.collected Full e.told e.scans e.collects)

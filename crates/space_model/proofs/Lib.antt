@@ -28,8 +28,11 @@ pub mod FinalNames
 pub mod FinalsKept
 pub mod TablesKept
 pub mod EntryLaws
+pub mod MovesKept
 pub mod AfterPieces
 pub mod CollectionsKept
+pub mod MovesSound
+pub mod CompactionKept
 pub mod RisingNames
 pub mod CorpseNames
 pub mod SweptLaws
@@ -38,7 +41,10 @@ pub mod PassingNames
 pub mod Queueing
 pub mod Taking
 pub mod Leaving
+pub mod CompactionNames
+pub mod CompactedSound
 pub mod WholeLaws
+pub mod CompactAnswers
 pub mod ExitLaws
 pub mod MinorLaws
 pub mod Stages

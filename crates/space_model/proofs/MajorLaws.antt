@@ -26,12 +26,13 @@ use Rattle.space_model.proofs.FirmNames.{firm_names, CountIs-firm, firm_few}
 use Rattle.space_model.proofs.Leaving.{Leaves, leaves_all, leaves_same, leaves_marked, leaves_taken, leaves_then}
 use Rattle.space_model.proofs.MarkingKept.{IsMarkingSound, is_marking, SoundMarking-started}
 use Rattle.space_model.proofs.PassingNames.{passing_names, IsRising-passing_names, member-passing_names, CountIs-passing}
+use Rattle.space_model.proofs.MovesKept.{SoundMoves-still, SoundMoves-same}
 use Rattle.space_model.proofs.WholeLaws.{Sound-completed, completed_idle, leaves_completed}
 
 -- what they leave
 
 leaves_begun : (s t : State) → t ≡ marking_begun s → Leaves s [] t
-leaves_begun s t e = subst (Leaves s []) (sym e) (leaves_all s _ refl refl refl refl refl refl refl)
+leaves_begun s t e = subst (Leaves s []) (sym e) (leaves_all s _ refl refl refl refl refl refl refl (λ e. absurd (cc)))
 
 begins_leaves : (s t : State) (events : List Event) → BeginsMarking s events t → Leaves s events t
 begins_leaves s t events b =
@@ -68,7 +69,8 @@ begun_heap s idle h = record {
 Sound-marking_begun : (s : State) → s.collector.phase ≡ Idle → Sound s → Sound (marking_begun (mark_started s))
 Sound-marking_begun s idle h =
     let started = SoundMoments-started s in
-    sound_of (marking_begun (mark_started s)) (begun_heap s idle h) h.names h.items h.roots (tables_of s h)
+    sound_of (marking_begun (mark_started s)) (begun_heap s idle h) (SoundMoves-still (marking_begun (mark_started s)) (λ e. cc)) h.names
+    h.items h.roots (tables_of s h)
     (record { seen = started.seen; once = started.once; mixed = started.mixed })
     (λ e. SoundMarking-started s 1 refl h.names)
 
@@ -83,7 +85,8 @@ major_sound s t events Done a h = begins_sound s t events a h
 major_sound s t events _ a h = absurd a
 
 pub Sound-scans_told : (s t : State) (scans : ℕ) → s.history.scanned + scans ≤ length s.history.seen → t ≡ scans_told s scans → Sound s → Sound t
-Sound-scans_told s t scans few e h = subst Sound (sym e) (sound_of (scans_told s scans) (heap_of s h) h.names h.items h.roots (tables_of s h)
+Sound-scans_told s t scans few e h = subst Sound (sym e) (sound_of (scans_told s scans) (heap_of s h)
+    (SoundMoves-same s (scans_told s scans) (λ e. e) refl refl h.moves) h.names h.items h.roots (tables_of s h)
     (record { seen = h.moments.seen; once = h.moments.once; mixed = h.moments.mixed })
     (λ m.
     let k = h.marking m in

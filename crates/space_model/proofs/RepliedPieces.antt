@@ -8,7 +8,7 @@ use Rattle.std.proofs.lemmas.Slice.Eq.{bytes_eq-Decides}
 use Rattle.space_model.specs.declared.command.Command.{Command}
 use Rattle.space_model.specs.declared.command.Command.TheVariants.{New, Set, DropRoot, Push, Raw, Pop, Store, RawStore, Load, Same, Unprotect}
 use Rattle.space_model.specs.declared.command.Command.TheVariants.{Id, ById, WeakSet, WeakGet, WeakKey, WeakSize, WeakDelete}
-use Rattle.space_model.specs.declared.command.Command.TheVariants.{Final, Unfinal, Run, Minor, Gc, Major, Mark, Finish, Sweep, Stat, Dump, Peek, Exit}
+use Rattle.space_model.specs.declared.command.Command.TheVariants.{Final, Unfinal, Run, Minor, Gc, Major, Mark, Finish, Sweep, Compact, Move, Fix, Stat, Dump, Peek, Exit}
 use Rattle.space_model.specs.declared.command.Input.{Input}
 use Rattle.space_model.specs.declared.command.Operand.{Operand}
 use Rattle.space_model.specs.declared.reply.Refusal.{Refusal}
@@ -19,6 +19,7 @@ use Rattle.space_model.specs.declared.value.Value.{Value}
 use Rattle.space_model.specs.declared.value.Value.TheVariants.{Name}
 use Rattle.space_model.specs.Ages.{is_protected}
 use Rattle.space_model.specs.CommandTexts.{IsWritableInput}
+use Rattle.space_model.specs.CompactCommands.{AnswersFix}
 use Rattle.space_model.specs.FinalCommands.{FinalReply, UnfinalReply}
 use Rattle.space_model.specs.FinalLaws.{ChangesFinals}
 use Rattle.space_model.specs.Finalizers.{without_name}
@@ -67,7 +68,7 @@ abbrev pub AreFinalsKept : Command → List (ℕ × List ℕ) → List (ℕ × L
 AreFinalsKept command finals later = (ChangesFinals command → ⊥) → later ≡ finals
 
 -- nothing was changed; or a root was written or taken away, the stack replaced, a field written, a name made unprotected, the tables replaced,
--- pages swept, or scans told
+-- pages swept, scans told, or references corrected
 pub data IsPiece (command : Command) (s t : State) : Type 0 where
   Nothing : (same : t ≡ s) → IsPiece command s t
   Root : (root : List ℕ) → (value : Value) → (ident : IsGiven command → IsIdent root) → (valid : IsValid command s value) →
@@ -82,6 +83,7 @@ pub data IsPiece (command : Command) (s t : State) : Type 0 where
       (finals : AreFinalsKept command s.tables.finals tables.finals) → (queue : tables.queue ≡ s.tables.queue) → (after : t ≡ tables_replaced s tables) → IsPiece command s t
   Swept : (pages : ℕ) → (freed : List ℕ) → (sweeps : Sweeps pages s freed t) → IsPiece command s t
   Scans : (scans : ℕ) → (few : s.history.scanned + scans ≤ length s.history.seen) → (after : t ≡ scans_told s scans) → IsPiece command s t
+  Fixed : (count : ℕ) → (reply : Reply) → (fixes : AnswersFix s count reply t) → IsPiece command s t
 
 -- what stands before others stays at its place
 slice_get-front : (names more : List ℕ) (k name : ℕ) → slice_get names k ≡ Some name → slice_get (names ++ more) k ≡ Some name
@@ -352,6 +354,9 @@ replied_piece s t Major reply e = absurd e
 replied_piece s t (Mark count) reply e = mark_piece (Mark count) s t count reply e
 replied_piece s t Finish reply e = absurd e
 replied_piece s t (Sweep count) reply e = sweep_piece (Sweep count) s t count reply e
+replied_piece s t Compact reply e = absurd e
+replied_piece s t (Move count) reply e = absurd e
+replied_piece s t (Fix count) reply e = Fixed count reply e
 replied_piece s t Stat reply e = stat_piece Stat s t reply e
 replied_piece s t Dump reply e = absurd e
 replied_piece s t (Peek object) reply e = absurd e

@@ -1,7 +1,7 @@
 -- The replies of commands without events are effects, and lawful outputs.
 use Rattle.std.proofs.Common.{[], ◌∷◌, refl}
 use Rattle.space_model.specs.declared.command.Command.{Command}
-use Rattle.space_model.specs.declared.command.Command.TheVariants.{New, Run, Minor, Gc, Major, Finish, Dump, Peek, Exit}
+use Rattle.space_model.specs.declared.command.Command.TheVariants.{New, Run, Minor, Gc, Major, Finish, Compact, Move, Dump, Peek, Exit}
 use Rattle.space_model.specs.declared.reply.Reply.{Reply}
 use Rattle.space_model.specs.Lawful.{Replies, Effects, Lawful}
 use Rattle.space_model.specs.Outputs.{Replied}
@@ -15,6 +15,8 @@ Effects-replied s Minor reply t r = absurd r
 Effects-replied s Gc reply t r = absurd r
 Effects-replied s Major reply t r = absurd r
 Effects-replied s Finish reply t r = absurd r
+Effects-replied s Compact reply t r = absurd r
+Effects-replied s (Move count) reply t r = absurd r
 Effects-replied s Dump reply t r = absurd r
 Effects-replied s (Peek object) reply t r = absurd r
 Effects-replied s Exit reply t r = absurd r

@@ -1,5 +1,5 @@
 -- The opening is sound, and lawful commands keep states so.
-use Rattle.std.proofs.Common.{◌≡◌, ℕ, ◌+◌, ◌≤◌, true, List, [], ◌∷◌, ◌++◌, length, drop, nat_eq, refl, sym, ap, ◌∙◌, subst, arith, ⊎_elim, None, Some}
+use Rattle.std.proofs.Common.{◌≡◌, ℕ, ◌+◌, ◌≤◌, true, List, [], ◌∷◌, ◌++◌, length, drop, nat_eq, refl, sym, ap, ◌∙◌, subst, arith, ⊎_elim, inl, None, Some}
 use Rattle.std.specs.Prelude.{is_some}
 use Rattle.std.specs.List.{IsDistinct}
 use Rattle.std.specs.Set.{is_member}
@@ -8,11 +8,12 @@ use Rattle.std.specs.FinMap.{FinMap, get, insert, keys, empty, get-empty}
 use Rattle.std.proofs.lemmas.Bool.{false≢true, and_parts}
 use Rattle.std.proofs.lemmas.List.{length-append}
 use Rattle.space_model.specs.declared.command.Command.{Command}
-use Rattle.space_model.specs.declared.command.Command.TheVariants.{New, Run, Minor, Gc, Major, Finish, Dump, Peek, Exit}
+use Rattle.space_model.specs.declared.command.Command.TheVariants.{New, Run, Minor, Gc, Major, Finish, Compact, Move, Dump, Peek, Exit}
 use Rattle.space_model.specs.declared.object.Guard.{Guard}
 use Rattle.space_model.specs.declared.object.Style.{Style}
 use Rattle.space_model.specs.declared.event.Event.{Event}
 use Rattle.space_model.specs.declared.event.Kind.TheVariants.{Minor as MinorKind, Full as FullKind}
+use Rattle.space_model.specs.declared.phase.Phase.TheVariants.{Moving}
 use Rattle.space_model.specs.declared.reply.Reply.{Reply}
 use Rattle.space_model.specs.declared.reply.Reply.TheVariants.{Made, Full, NoMemory, RanCount, Refused}
 use Rattle.space_model.specs.declared.value.Value.{Value}
@@ -26,6 +27,7 @@ use Rattle.space_model.specs.Moments.{noted, mixed_in}
 use Rattle.space_model.specs.NewCommand.{stages_before_page, all_stages, AnswersNew}
 use Rattle.space_model.specs.Outputs.{Output}
 use Rattle.space_model.specs.Pieces.{new_item, item_written, item_unprotected, born, root_written, root_dropped, stack_replaced, field_written, unprotected}
+use Rattle.space_model.specs.Places.{IsFree}
 use Rattle.space_model.specs.Reach.{IsStart, Reach}
 use Rattle.space_model.specs.Roots.{root_names}
 use Rattle.space_model.specs.Given.{IsGiven, AreGiven}
@@ -35,6 +37,7 @@ use Rattle.space_model.specs.StoredWords.{without_pair}
 use Rattle.space_model.proofs.AfterPieces.{heap_of, tables_of, Sound-tables_replaced, after_piece}
 use Rattle.space_model.proofs.CollectionsKept.{Sound-sweeps}
 use Rattle.space_model.proofs.CorpsesKept.{SoundCorpses-born}
+use Rattle.space_model.proofs.CompactAnswers.{compact_sound, move_sound, fix_sound}
 use Rattle.space_model.proofs.ExitLaws.{answers_exit_sound}
 use Rattle.space_model.proofs.FinalsKept.{SoundFinals-born, SoundQueue-born, SoundQueue-longer, SoundQueue-run}
 use Rattle.space_model.proofs.KeptNames.{SoundKept-born}
@@ -43,15 +46,16 @@ use Rattle.space_model.proofs.LeftKept.{SoundLeft-none, SoundStale-none, SoundLe
 use Rattle.space_model.proofs.MajorLaws.{Sound-scans_told, major_sound, finish_sound}
 use Rattle.space_model.proofs.MapLaws.{some_get, present-insert}
 use Rattle.space_model.proofs.MarkingKept.{SoundMarking-born, SoundMarking-field_written, SoundMarking-unprotected}
+use Rattle.space_model.proofs.MovesKept.{SoundMoves-still, SoundMoves-same, SoundMoves-shaped, SoundMoves-born}
 use Rattle.space_model.proofs.NamesKept.{written_shape, written_long, SoundNames-born, SoundNames-root_written, SoundNames-root_dropped, SoundNames-field_written, SoundStale-field_written, SoundKept-field_written}
 use Rattle.space_model.proofs.SweepKept.{SoundSweep-born, SoundUsed-born}
 use Rattle.space_model.proofs.Members.{member_filter}
 use Rattle.space_model.proofs.TablesKept.{SoundIds-longer, AreSoundEntries-present}
 use Rattle.space_model.proofs.ReachedLaws.{member-keys}
 use Rattle.space_model.proofs.Reaching.{IsReached-least}
-use Rattle.space_model.proofs.RepliedPieces.{IsPiece, Nothing, Root, Dropped, Stack, Field, Guard as GuardPiece, Tabled, Swept, Scans, replied_piece}
+use Rattle.space_model.proofs.RepliedPieces.{IsPiece, Nothing, Root, Dropped, Stack, Field, Guard as GuardPiece, Tabled, Swept, Scans, Fixed, replied_piece}
 use Rattle.space_model.proofs.SameShapes.{SoundLayout-shaped, SoundCorpses-shaped, SoundLeft-shaped}
-use Rattle.space_model.proofs.Stages.{passed_sound, place_sound}
+use Rattle.space_model.proofs.Stages.{passed_sound, place_free, place_sound}
 use Rattle.space_model.proofs.UnprotectedNames.{unprotected_shape, unprotected_long, SoundNames-unprotected, SoundStale-unprotected, SoundKept-unprotected, AreSoundItems-unprotected}
 use Rattle.space_model.proofs.WholeLaws.{collects_sound}
 use Rattle.space_model.proofs.ValuesKept.{IsPresentValue, IsReachedValue, name_present, AreSoundItems-push, AreSoundItems-field_written, AreSoundRoots-with_root, AreSoundRoots-without_root}
@@ -109,6 +113,7 @@ Sound-opening limit = record {
   cursor = λ e. refl;
   left = SoundLeft-none [] none_yet none_yet none_yet [] refl;
   stale = SoundStale-none [] none_yet none_yet [] 0 refl;
+  moves = SoundMoves-still (opening limit) (λ e. cc);
   items = tt;
   roots = tt;
   ids = record { allocated = λ n m. absurd (false≢true m); once = tt };
@@ -130,8 +135,9 @@ Sound-opening limit = record {
 }
 
 pub Sound-born : (s t : State) (root : List ℕ) (fields : ℕ) (guard : Guard) (style : Style) (address : ℕ) → IsIdent root →
-    fields ≤ most_fields → IsFoundAt s (pool_for fields) address → t ≡ noted (born s root fields guard style address) → Sound s → Sound t
-Sound-born s t root fields guard style address ident few found e h =
+    fields ≤ most_fields → IsFoundAt s (pool_for fields) address → (s.collector.phase ≡ Moving → IsFree s (pool_for fields) address) →
+    t ≡ noted (born s root fields guard style address) → Sound s → Sound t
+Sound-born s t root fields guard style address ident few found free e h =
     let fresh = fresh_slot s fields address h.layout found in
     let longer = length-append s.graph (new_item guard style fields ∷ []) in
     let older = length-append s.collector.outlived (0 ∷ []) in
@@ -149,6 +155,7 @@ Sound-born s t root fields guard style address ident few found e h =
             h.kept;
         outlived = (let a = h.outlived in omega arith);
       };
+      moves = SoundMoves-born s root fields guard style address free fresh.below h.layout.placed h.left.slots h.moves;
       names = SoundNames-born s root fields guard style address h.layout.placed h.names;
       items = AreSoundItems-push s.graph guard style fields few h.items;
       roots = AreSoundRoots-with_root s.roots root (Name (length s.graph + 1)) ident tt h.roots;
@@ -168,6 +175,7 @@ pub Sound-root_written : (s t : State) (root : List ℕ) (value : Value) → IsI
     t ≡ noted (root_written s root value) → Sound s → Sound t
 Sound-root_written s t root value ident present small e h = after_piece (root_written s root value) t e (record {
   heap = heap_of s h;
+  moves = SoundMoves-same s (root_written s root value) (λ e. e) refl refl h.moves;
   names = SoundNames-root_written s.graph s.roots s.heap.place root value present h.names;
   items = h.items;
   roots = AreSoundRoots-with_root s.roots root value ident small h.roots;
@@ -179,6 +187,7 @@ Sound-root_written s t root value ident present small e h = after_piece (root_wr
 pub Sound-root_dropped : (s t : State) (root : List ℕ) → t ≡ noted (root_dropped s root) → Sound s → Sound t
 Sound-root_dropped s t root e h = after_piece (root_dropped s root) t e (record {
   heap = heap_of s h;
+  moves = SoundMoves-same s (root_dropped s root) (λ e. e) refl refl h.moves;
   names = SoundNames-root_dropped s.graph s.roots s.heap.place root h.names;
   items = h.items;
   roots = AreSoundRoots-without_root s.roots root h.roots;
@@ -191,6 +200,7 @@ Sound-root_dropped s t root e h = after_piece (root_dropped s root) t e (record 
 pub Sound-stack_replaced : (s t : State) (words : List ℕ) → t ≡ noted (stack_replaced s words) → Sound s → Sound t
 Sound-stack_replaced s t words e h = after_piece (stack_replaced s words) t e (record {
   heap = heap_of s h;
+  moves = SoundMoves-same s (stack_replaced s words) (λ e. e) refl refl h.moves;
   names = h.names;
   items = h.items;
   roots = h.roots;
@@ -220,6 +230,8 @@ Sound-field_written s t name index value there present small reached e h =
         kept = SoundKept-field_written s name index value h.layout.placed b.0 b.1 h.kept;
         outlived = h.outlived ∙ sym long;
       };
+      moves = SoundMoves-shaped s (field_written s name index value) (λ e. e) refl
+          (λ n left. let gone = some_get _ left in ap pool_for (shape n (h.left.slots.allocated n gone.0 gone.1).0)) h.moves;
       names = SoundNames-field_written s name index value h.layout.placed b.0 b.1 present h.names;
       items = AreSoundItems-field_written s.graph name index value small h.items;
       roots = h.roots;
@@ -251,6 +263,8 @@ Sound-unprotected s t name there e h =
         kept = SoundKept-unprotected s name h.layout.placed there h.kept;
         outlived = h.outlived ∙ sym long;
       };
+      moves = SoundMoves-shaped s (unprotected s name) (λ e. e) refl
+          (λ n left. let gone = some_get _ left in ap pool_for (shape n (h.left.slots.allocated n gone.0 gone.1).0)) h.moves;
       names = SoundNames-unprotected s name h.layout.placed there h.names;
       items = AreSoundItems-unprotected s name h.layout.placed there h.items;
       roots = h.roots;
@@ -268,7 +282,8 @@ new_sound : (s t : State) (root : List ℕ) (fields : ℕ) (guard : Guard) (styl
     AnswersNew s root fields guard style events reply t → Sound s → Sound t
 new_sound s t root fields guard style events (Made name address) ident e h =
     Sound-born e.ready t root fields guard style address ident e.few
-    (found_at e.place.stage e.place.tried (pool_for fields) e.ready address e.place.found) e.made
+    (found_at e.place.stage e.place.tried (pool_for fields) e.place.finding e.ready address e.place.found)
+    (λ moves. place_free s (pool_for fields) events e.ready address e.place h (inl moves)) e.made
     (place_sound s (pool_for fields) events e.ready address e.place h)
 new_sound s t root fields guard style events Full ident e h = passed_sound all_stages s (pool_for fields) events t e.passed h
 new_sound s t root fields guard style events NoMemory ident e h = ⊎_elim
@@ -302,6 +317,7 @@ piece_sound command s t i (GuardPiece name object after) h = Sound-unprotected s
 piece_sound command s t i (Tabled tables sound ids maps finals queue after) h = Sound-tables_replaced s t tables (sound h) after h
 piece_sound command s t i (Swept pages freed sweeps) h = Sound-sweeps pages s t freed sweeps h
 piece_sound command s t i (Scans scans few after) h = Sound-scans_told s t scans few after h
+piece_sound command s t i (Fixed count reply fixes) h = fix_sound s t count reply fixes h
 
 effects_sound : (s t : State) (command : Command) (events : List Event) (answer : List Output) → IsGiven command → Effects s command events answer t →
     Sound s → Sound t
@@ -311,6 +327,8 @@ effects_sound s t Minor events answer i e h = collects_sound s t MinorKind event
 effects_sound s t Gc events answer i e h = collects_sound s t FullKind events e.reply e.is h
 effects_sound s t Major events answer i e h = major_sound s t events e.reply e.is h
 effects_sound s t Finish events answer i e h = finish_sound s t events e.reply e.is h
+effects_sound s t Compact events answer i e h = compact_sound s t events e.reply e.is h
+effects_sound s t (Move count) events answer i e h = move_sound s t count events e.reply e.is h
 effects_sound s t Dump events answer i e h = subst Sound (sym e.1.unchanged) h
 effects_sound s t (Peek object) events answer i e h = subst Sound (sym e.1.1) h
 effects_sound s t Exit events answer i e h = answers_exit_sound s t events e.reply e.is h

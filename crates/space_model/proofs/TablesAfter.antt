@@ -7,7 +7,7 @@ use Rattle.std.proofs.lemmas.Bool.{false≢true, false_from_ne_true, true_from_n
 use Rattle.std.proofs.lemmas.List.{append-nil}
 use Rattle.std.proofs.lemmas.Map.Keys.{IsDistinct-tail}
 use Rattle.space_model.specs.declared.command.Command.{Command}
-use Rattle.space_model.specs.declared.command.Command.TheVariants.{New, Run, Minor, Gc, Major, Finish, Dump, Peek, Exit}
+use Rattle.space_model.specs.declared.command.Command.TheVariants.{New, Run, Minor, Gc, Major, Finish, Compact, Move, Dump, Peek, Exit}
 use Rattle.space_model.specs.declared.event.Event.{Event}
 use Rattle.space_model.specs.declared.event.Kind.{Kind}
 use Rattle.space_model.specs.declared.event.Kind.TheVariants.{Minor as MinorKind, Full as FullKind}
@@ -16,6 +16,7 @@ use Rattle.space_model.specs.declared.object.Style.{Style}
 use Rattle.space_model.specs.declared.reply.Reply.{Reply}
 use Rattle.space_model.specs.declared.reply.Reply.TheVariants.{Made, Full, NoMemory, RanCount, Scanned, ExitRan, Refused}
 use Rattle.space_model.specs.Collections.{Collects}
+use Rattle.space_model.specs.CompactCommands.{AnswersCompact}
 use Rattle.space_model.specs.Exit.{AnswersExit}
 use Rattle.space_model.specs.FinalCommands.{ran_events, RunsFinals}
 use Rattle.space_model.specs.IdCommands.{IsIdOf}
@@ -28,13 +29,14 @@ use Rattle.space_model.specs.Sound.{Sound}
 use Rattle.space_model.specs.State.{State, Tables, is_present}
 use Rattle.space_model.specs.TableLaws.{ChangesMap}
 use Rattle.space_model.specs.WeakMaps.{weak_value, entries_left}
+use Rattle.space_model.proofs.CompactionNames.{leaves_move_answer, leaves_fix_answer}
 use Rattle.space_model.proofs.EntryLaws.{all_left, left_value, value_left}
 use Rattle.space_model.proofs.ExitLaws.{gone_among-ran, exit_takes}
 use Rattle.space_model.proofs.FinalNames.{head_apart}
 use Rattle.space_model.proofs.Leaving.{Leaves, leaves_swept}
 use Rattle.space_model.proofs.MajorLaws.{major_leaves, finish_leaves}
-use Rattle.space_model.proofs.PlacesAfter.{lawful_told, gone_told}
-use Rattle.space_model.proofs.RepliedPieces.{AreIdsKept, IsPiece, Nothing, Root, Dropped, Stack, Field, Guard as GuardPiece, Tabled, Swept, Scans, replied_piece}
+use Rattle.space_model.proofs.PlacesAfter.{leaves_before_moves, lawful_told, gone_told}
+use Rattle.space_model.proofs.RepliedPieces.{AreIdsKept, IsPiece, Nothing, Root, Dropped, Stack, Field, Guard as GuardPiece, Tabled, Swept, Scans, Fixed, replied_piece}
 use Rattle.space_model.proofs.Stages.{passed_leaves, place_leaves}
 use Rattle.space_model.proofs.TablesKept.{weak_key-present, weak_value-present}
 use Rattle.space_model.proofs.ToldNames.{gone_among, gone_among-append}
@@ -92,6 +94,7 @@ module _ (command : Command) (s t : State) (events : List Event) where
   })
   piece_tables none (Swept pages freed sweeps) = worked (subst (λ events. Leaves s events t) (sym none) (leaves_swept pages s t freed sweeps))
   piece_tables none (Scans scans few after) = same_tables none (ap (λ (u : State). u.tables) after)
+  piece_tables none (Fixed count reply fixes) = worked (subst (λ events. Leaves s events t) (sym none) (leaves_fix_answer s t count reply fixes))
 
   -- an object is made after work of the collector
   made_tables : (ready : State) (root : List ℕ) (fields : ℕ) (guard : Guard) (style : Style) (address : ℕ) → Leaves s events ready →
@@ -118,6 +121,18 @@ module _ (command : Command) (s t : State) (events : List Event) where
   collects_tables : (kind : Kind) (reply : Reply) → Collects s kind events reply t → TablesAfter command s events t
   collects_tables kind (Scanned scans) e = worked (leaves_collection s t kind events scans e)
   collects_tables kind _ e = absurd e
+
+  -- a compaction begins after a collection
+  compact_tables : (reply : Reply) → AnswersCompact s events reply t → TablesAfter command s events t
+  compact_tables (Scanned scans) e =
+      let before = leaves_before_moves s events scans t e in
+      record {
+        ids = λ k name at. ap (λ (u : State). slice_get u.tables.ids k) e.begins ∙ ap (λ ids. slice_get ids k) before.ids ∙ at;
+        values = λ weak key other.
+            ap (λ (u : State). weak_value u.tables.weak weak key) e.begins
+            ∙ ap (λ entries. weak_value entries weak key) (before.weak ∙ ap (λ names. entries_left names s.tables.weak) (sym before.told));
+      }
+  compact_tables _ e = absurd e
 
   runs_tables : (count : ℕ) (reply : Reply) → RunsFinals s count events reply t → TablesAfter command s events t
   runs_tables count (RanCount ran) e =
@@ -151,6 +166,8 @@ effects_tables s t Minor events answer e = collects_tables Minor s t events Mino
 effects_tables s t Gc events answer e = collects_tables Gc s t events FullKind e.reply e.is
 effects_tables s t Major events answer e = worked Major s t events (major_leaves s t events e.reply e.is)
 effects_tables s t Finish events answer e = worked Finish s t events (finish_leaves s t events e.reply e.is)
+effects_tables s t Compact events answer e = compact_tables Compact s t events e.reply e.is
+effects_tables s t (Move count) events answer e = worked (Move count) s t events (leaves_move_answer s t count events e.reply e.is)
 effects_tables s t Dump events answer e = same_state Dump s t events e.0 e.1.unchanged
 effects_tables s t (Peek object) events answer e = same_state (Peek object) s t events e.0 e.1.1
 effects_tables s t Exit events answer e = exit_tables Exit s t events e.reply e.is

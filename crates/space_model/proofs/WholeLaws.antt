@@ -1,5 +1,5 @@
 -- What a collection does to a state: it keeps it sound, and leaves what was reached; and that there is one.
-use Rattle.std.proofs.Common.{◌≡◌, not, nat_eq, ℕ, true, false, List, [], ◌∷◌, ◌++◌, length, refl, sym, ap, ◌∙◌, subst}
+use Rattle.std.proofs.Common.{◌≡◌, ◌≢◌, not, nat_eq, ℕ, true, false, List, [], ◌∷◌, ◌++◌, length, refl, sym, ap, ◌∙◌, subst}
 use Rattle.std.specs.Prelude.{◌↔◌}
 use Rattle.std.specs.Set.{is_member}
 use Rattle.std.proofs.lemmas.Bool.{not-true, false≢true, false_from_ne_true}
@@ -23,7 +23,9 @@ use Rattle.space_model.specs.State.{State, is_present}
 use Rattle.space_model.specs.Sweeps.{sweep_phase}
 use Rattle.space_model.specs.Verdicts.{IsVerdict, verdict_events}
 use Rattle.space_model.proofs.CollectionsKept.{Sound-start, Sound-took, Sound-swept_all}
-use Rattle.space_model.proofs.Leaving.{Leaves, leaves_same, leaves_marked, leaves_swept, leaves_taken, leaves_then, leaves_reach}
+use Rattle.space_model.proofs.CompactionNames.{leaves_fixes, leaves_compacted}
+use Rattle.space_model.proofs.CompactedSound.{fixes_sound, compacted_sound}
+use Rattle.space_model.proofs.Leaving.{Leaves, leaves_same, leaves_marked, leaves_swept, leaves_taken, leaves_then, leaves_reach, leaves_reached}
 use Rattle.space_model.proofs.SweptLaws.{SweepAll-swept}
 use Rattle.space_model.proofs.PassingNames.{passing_names, IsRising-passing_names, member-passing_names}
 use Rattle.space_model.proofs.ReachedLaws.{member-reached_names}
@@ -37,8 +39,8 @@ completion_sound Marking s t events e c h =
     let judged = Sound-took s c.judged Major c.taken (λ moves. cc) (λ fixes. cc) c.verdict.verdict c.verdict.takes h in
     Sound-swept_all c.judged t c.freed c.sweeps judged
 completion_sound Sweeping s t events e c h = Sound-swept_all s t c.0 c.2 h
-completion_sound Moving s t events e c h = absurd c
-completion_sound Fixing s t events e c h = absurd c
+completion_sound Moving s t events e c h = compacted_sound s events t e c h
+completion_sound Fixing s t events e c h = fixes_sound s t e c.1 h
 
 pub Sound-completed : (s t : State) (events : List Event) → Completes s events t → Sound s → Sound t
 Sound-completed s t events c h = completion_sound s.collector.phase s t events refl c h
@@ -56,24 +58,24 @@ completion_idle : (phase : Phase) (s t : State) (events : List Event) → s.coll
 completion_idle Idle s t events e c h = ap (λ (u : State). u.collector.phase) c.1 ∙ e
 completion_idle Marking s t events e c h = (SweepAll-swept c.judged t c.freed c.sweeps).phase (taken_phase s c.judged Major c.taken c.verdict.takes)
 completion_idle Sweeping s t events e c h = (SweepAll-swept s t c.0 c.2).phase (e ∙ sym (sweeps s.heap.unswept (h.sweep.some e)))
-completion_idle Moving s t events e c h = absurd c
-completion_idle Fixing s t events e c h = absurd c
+completion_idle Moving s t events e c h = ap (λ (u : State). u.collector.phase) c.fixes.after
+completion_idle Fixing s t events e c h = ap (λ (u : State). u.collector.phase) c.1.after
 
 -- nothing is under way after a completion
 pub completed_idle : (s t : State) (events : List Event) → Completes s events t → Sound s → t.collector.phase ≡ Idle
 completed_idle s t events c h = completion_idle s.collector.phase s t events refl c h
 
-completion_leaves : (phase : Phase) (s t : State) (events : List Event) → CompletesIn phase s events t → Leaves s events t
-completion_leaves Idle s t events c = subst (λ events. Leaves s events t) (sym c.0) (leaves_same s t c.1)
-completion_leaves Marking s t events c =
+completion_leaves : (phase : Phase) (s t : State) (events : List Event) → s.collector.phase ≡ phase → CompletesIn phase s events t → Leaves s events t
+completion_leaves Idle s t events e c = subst (λ events. Leaves s events t) (sym c.0) (leaves_same s t c.1)
+completion_leaves Marking s t events e c =
     subst (λ told. Leaves s told t) (append-nil events)
     (leaves_then s c.judged t events [] (leaves_taken s Major c.taken events c.judged c.verdict) (leaves_swept _ c.judged t c.freed c.sweeps))
-completion_leaves Sweeping s t events c = subst (λ events. Leaves s events t) (sym c.1) (leaves_swept _ s t c.0 c.2)
-completion_leaves Moving s t events c = absurd c
-completion_leaves Fixing s t events c = absurd c
+completion_leaves Sweeping s t events e c = subst (λ events. Leaves s events t) (sym c.1) (leaves_swept _ s t c.0 c.2)
+completion_leaves Moving s t events e c = leaves_compacted s events t e c
+completion_leaves Fixing s t events e c = subst (λ events. Leaves s events t) (sym c.0) (leaves_fixes s t c.1)
 
 pub leaves_completed : (s t : State) (events : List Event) → Completes s events t → Leaves s events t
-leaves_completed s t events c = completion_leaves s.collector.phase s t events c
+leaves_completed s t events c = completion_leaves s.collector.phase s t events refl c
 
 -- a collection
 
@@ -126,12 +128,12 @@ collection_leaves s t events scans c h n =
     ((λ p. same.0 (there.0 p)), (λ r. there.1 (same.1 r)))
 
 -- the same names are reached after a completion
-pub completed_reach : (s t : State) (events : List Event) → Completes s events t → (n : ℕ) → Reach t n ↔ Reach s n
-completed_reach s t events c n = leaves_reach s events t (leaves_completed s t events c) n
+pub completed_reach : (s t : State) (events : List Event) → Completes s events t → s.collector.phase ≢ Moving → (n : ℕ) → Reach t n ↔ Reach s n
+completed_reach s t events c still n = leaves_reach s events t (leaves_completed s t events c) ((leaves_completed s t events c).unmoving still) n
 
 -- and what was reached in a sound state is present after it
 pub completed_present : (s t : State) (events : List Event) → Completes s events t → Sound s → (n : ℕ) → Reach s n → is_present t n ≡ true
-completed_present s t events c h n r = reach_present t (Sound-completed s t events c h).names n ((completed_reach s t events c n).1 r)
+completed_present s t events c h n r = reach_present t (Sound-completed s t events c h).names n (leaves_reached s events t (leaves_completed s t events c) n r)
 
 -- after a collection the phase is that of the pages that wait
 pub collection_phase : (s t : State) (kind : Kind) (events : List Event) (scans : ℕ) → IsCollection s kind events scans t →

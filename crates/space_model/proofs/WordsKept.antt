@@ -1,5 +1,5 @@
 -- Each word on the stack keeps its value.
-use Rattle.std.proofs.Common.{◌≡◌, ◌==◌, ◌%◌, ◌/◌, ◌^◌, ◌&&◌, ℕ, nat_lt, cond, Bool, true, false, List, nat_eq, sym, ap, ◌∙◌, refl, inr, Option, None, Some}
+use Rattle.std.proofs.Common.{◌≡◌, ◌==◌, ◌%◌, ◌/◌, ◌^◌, ◌&&◌, ℕ, nat_lt, cond, Bool, true, false, List, nat_eq, sym, ap, ◌∙◌, refl, inl, inr, Option, None, Some}
 use Rattle.std.specs.Option.{option_map}
 use Rattle.std.specs.Set.{is_member}
 use Rattle.std.proofs.lemmas.Bool.{false≢true}
@@ -36,5 +36,7 @@ words_keep s t command outputs small l h word value m still e =
     λ name named.
     let at : Named s word name = (named_is_told s word name h).0 named in
     let reached : Reach s name = IsReached-start (IsChild s.graph) (IsStart s) name (inr (word, m, at)) in
-    (named_is_told t word name (lawful_sound s t command outputs small l h)).1 (reached_stays s t command outputs l h (λ (exit, none). false≢true (sym (ap (λ words. is_member nat_eq words word) none) ∙ still)) name reached ∙ at) in
+    (named_is_told t word name (lawful_sound s t command outputs small l h)).1
+    (reached_stays s t command outputs l h (λ (exit, none). false≢true (sym (ap (λ words. is_member nat_eq words word) none) ∙ still)) name reached
+    (inl (word, m, at)) ∙ at) in
     same_value (word == 0) (nat_lt word (2 ^ 63) && (word % 2 == 1)) (word / 2) (named_by s.heap.place word) (named_by t.heap.place word) value same e

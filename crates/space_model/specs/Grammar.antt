@@ -6,7 +6,7 @@ use Rattle.std.specs.Str.Parse.{AllDigits, digits_value}
 use Rattle.space_model.specs.declared.command.Command.{Command}
 use Rattle.space_model.specs.declared.command.Command.TheVariants.{New, Set, DropRoot, Push, Raw, Pop, Store, RawStore, Load, Same, Unprotect}
 use Rattle.space_model.specs.declared.command.Command.TheVariants.{Id, ById, WeakSet, WeakGet, WeakKey, WeakSize, WeakDelete}
-use Rattle.space_model.specs.declared.command.Command.TheVariants.{Final, Unfinal, Run, Minor, Gc, Major, Mark, Finish, Sweep, Stat, Dump, Peek, Exit}
+use Rattle.space_model.specs.declared.command.Command.TheVariants.{Final, Unfinal, Run, Minor, Gc, Major, Mark, Finish, Sweep, Compact, Move, Fix, Stat, Dump, Peek, Exit}
 use Rattle.space_model.specs.declared.command.Input.{Input}
 use Rattle.space_model.specs.declared.command.Input.TheVariants.{From, Nil, Small}
 use Rattle.space_model.specs.declared.command.Operand.{Operand}
@@ -110,6 +110,9 @@ form_of Major = Exactly (codes "major") ∷ []
 form_of (Mark count) = Exactly (codes "mark") ∷ Decimal count ∷ []
 form_of Finish = Exactly (codes "finish") ∷ []
 form_of (Sweep count) = Exactly (codes "sweep") ∷ Decimal count ∷ []
+form_of Compact = Exactly (codes "compact") ∷ []
+form_of (Move count) = Exactly (codes "move") ∷ Decimal count ∷ []
+form_of (Fix count) = Exactly (codes "fix") ∷ Decimal count ∷ []
 form_of Stat = Exactly (codes "stat") ∷ []
 form_of Dump = Exactly (codes "dump") ∷ []
 form_of (Peek object) = Exactly (codes "peek") ∷ OperandWord object ∷ []

@@ -3,13 +3,14 @@ use Rattle.std.specs.Prelude.{◌≡◌, List, [], ◌∷◌, ◌++◌, map}
 use Rattle.space_model.specs.declared.command.Command.{Command}
 use Rattle.space_model.specs.declared.command.Command.TheVariants.{New, Set, DropRoot, Push, Raw, Pop, Store, RawStore, Load, Same, Unprotect}
 use Rattle.space_model.specs.declared.command.Command.TheVariants.{Id, ById, WeakSet, WeakGet, WeakKey, WeakSize, WeakDelete}
-use Rattle.space_model.specs.declared.command.Command.TheVariants.{Final, Unfinal, Run, Minor, Gc, Major, Mark, Finish, Sweep, Stat, Dump, Peek, Exit}
+use Rattle.space_model.specs.declared.command.Command.TheVariants.{Final, Unfinal, Run, Minor, Gc, Major, Mark, Finish, Sweep, Compact, Move, Fix, Stat, Dump, Peek, Exit}
 use Rattle.space_model.specs.declared.event.Event.{Event}
 use Rattle.space_model.specs.declared.event.Kind.TheVariants.{Minor as MinorKind, Full}
 use Rattle.space_model.specs.declared.reply.Reply.{Reply}
 use Rattle.space_model.specs.RootCommands.{Sets, DropsRoot, Loads}
 use Rattle.space_model.specs.ObjectCommands.{Stores, RawStores, Unprotects, Compares}
 use Rattle.space_model.specs.Collections.{Collects}
+use Rattle.space_model.specs.CompactCommands.{AnswersCompact, AnswersMove, AnswersFix}
 use Rattle.space_model.specs.Dumps.{Dumps, Peeks}
 use Rattle.space_model.specs.Exit.{AnswersExit}
 use Rattle.space_model.specs.FinalCommands.{DefinesFinal, TakesFinals, RunsFinals}
@@ -46,6 +47,7 @@ Replies s (Final object label) reply t = DefinesFinal s object label reply t
 Replies s (Unfinal object) reply t = TakesFinals s object reply t
 Replies s (Mark count) reply t = AnswersMark s count reply t
 Replies s (Sweep count) reply t = AnswersSweep s count reply t
+Replies s (Fix count) reply t = AnswersFix s count reply t
 Replies s Stat reply t = AnswersStat s reply t
 Replies s _ reply t = ⊥
 
@@ -63,6 +65,8 @@ Effects s Minor events answer t = IsOneReply (λ reply. Collects s MinorKind eve
 Effects s Gc events answer t = IsOneReply (λ reply. Collects s Full events reply t) answer
 Effects s Major events answer t = IsOneReply (λ reply. AnswersMajor s events reply t) answer
 Effects s Finish events answer t = IsOneReply (λ reply. AnswersFinish s events reply t) answer
+Effects s Compact events answer t = IsOneReply (λ reply. AnswersCompact s events reply t) answer
+Effects s (Move count) events answer t = IsOneReply (λ reply. AnswersMove s count events reply t) answer
 Effects s Dump events answer t = (events ≡ []) × Dumps s answer t
 Effects s (Peek object) events answer t = (events ≡ []) × Peeks s object answer t
 Effects s Exit events answer t = IsOneReply (λ reply. AnswersExit s events reply t) answer

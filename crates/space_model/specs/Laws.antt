@@ -12,12 +12,14 @@ use Rattle.space_model.specs.declared.event.Kind.{Kind}
 use Rattle.space_model.specs.declared.event.Kind.TheVariants.{Minor, Full}
 use Rattle.space_model.specs.declared.object.Guard.{Guard}
 use Rattle.space_model.specs.declared.object.Style.{Style}
-use Rattle.space_model.specs.declared.phase.Phase.TheVariants.{Moving, Fixing}
+use Rattle.space_model.specs.declared.phase.Phase.TheVariants.{Idle, Moving, Fixing}
 use Rattle.space_model.specs.declared.reply.Reply.{Reply}
 use Rattle.space_model.specs.declared.reply.Reply.TheVariants.{Made, Done, Pushed, Scanned, SweepCount, StatLine, Full as FullReply}
 use Rattle.space_model.specs.declared.stat.Stat.{Stat}
 use Rattle.space_model.specs.declared.value.Value.{Value}
 use Rattle.space_model.specs.Collections.{IsCollection, Collects}
+use Rattle.space_model.specs.Compaction.{IsPinned, Moves1, fixing_begun, Visits1, compaction_ended, HasNoVisit}
+use Rattle.space_model.specs.CompactCommands.{moving_begun}
 use Rattle.space_model.specs.Completions.{Completes}
 use Rattle.space_model.specs.Counts.{CountIs}
 use Rattle.space_model.specs.Given.{IsGiven, AreGiven}
@@ -33,7 +35,7 @@ use Rattle.space_model.specs.Markings.{StartMark, Took}
 use Rattle.space_model.specs.Moments.{noted, SameMoments}
 use Rattle.space_model.specs.NewCommand.{AnswersNew}
 use Rattle.space_model.specs.Operands.{operand_value, input_value, named_by, word_value}
-use Rattle.space_model.specs.Outputs.{Output, gone_in}
+use Rattle.space_model.specs.Outputs.{Output, gone_in, moved_in}
 use Rattle.space_model.specs.Reach.{Reach, IsStart, Named, VisibleReach}
 use Rattle.space_model.specs.Reached.{reached_names}
 use Rattle.space_model.specs.Roots.{root_value}
@@ -134,6 +136,26 @@ StatIsThere = (s : State) → Sound s → (stat : Stat) × AnswersStat s (StatLi
 -- and one alone, where no other names may be kept than those that are for certain
 abbrev pub CountsAreOne : Type 0
 CountsAreOne = (s : State) (stat other : Stat) → s.collector.vague ≡ 0 → AreCounts s stat → AreCounts s other → stat ≡ other
+
+-- the beginning of the moves leads from a sound state in which nothing is under way to a sound state
+abbrev pub MovingIsSound : Type 0
+MovingIsSound = (s : State) → s.collector.phase ≡ Idle → Sound s → Sound (moving_begun s)
+
+-- a move leads from a sound state in Moving to a sound state
+abbrev pub MoveIsSound : Type 0
+MoveIsSound = (s t : State) (name from to : ℕ) → s.collector.phase ≡ Moving → Moves1 s name from to t → Sound s → Sound t
+
+-- the beginning of the correction of references leads from a sound state in Moving to a sound state
+abbrev pub FixingIsSound : Type 0
+FixingIsSound = (s : State) → s.collector.phase ≡ Moving → Sound s → Sound (fixing_begun s)
+
+-- a visit leads from a sound state in Fixing to a sound state
+abbrev pub VisitIsSound : Type 0
+VisitIsSound = (s t : State) → s.collector.phase ≡ Fixing → Visits1 s t → Sound s → Sound t
+
+-- the end of a compaction in which each name was visited leads from a sound state in Fixing to a sound state
+abbrev pub CompactionEndIsSound : Type 0
+CompactionEndIsSound = (s : State) → s.collector.phase ≡ Fixing → HasNoVisit s → Sound s → Sound (compaction_ended s)
 
 -- what completes the work under way leads from a sound state to a sound state
 abbrev pub CompletesIsSound : Type 0
@@ -266,11 +288,18 @@ ReachedStay =
     (s t : State) (command : Command) (outputs : List Output) → command ≢ Exit → Lawful s command outputs t → Sound s →
     (name : ℕ) → VisibleReach s name → is_present t name ≡ true
 
--- what is present before and after a lawful command, in a sound state, stands where it stood
+-- what is present before and after a lawful command, in a sound state, stands where it stood, unless an event tells that it was moved
 abbrev pub PlacesStay : Type 0
 PlacesStay =
     (s t : State) (command : Command) (outputs : List Output) → Lawful s command outputs t → Sound s →
-    (name : ℕ) → is_present s name ≡ true → is_present t name ≡ true → get t.heap.place name ≡ get s.heap.place name
+    (name : ℕ) → is_present s name ≡ true → is_present t name ≡ true → is_member nat_eq (moved_in outputs) name ≡ false →
+    get t.heap.place name ≡ get s.heap.place name
+
+-- no event of a lawful command tells that a name was moved that is pinned, in a sound state, before the command
+abbrev pub PinnedStay : Type 0
+PinnedStay =
+    (s t : State) (command : Command) (outputs : List Output) → Lawful s command outputs t → Sound s →
+    (name : ℕ) → IsPinned s name → is_member nat_eq (moved_in outputs) name ≡ false
 
 -- no lawful command changes how many pages there may be
 abbrev pub LimitStays : Type 0

@@ -22,9 +22,11 @@ pub mod Finalizers
 pub mod Verdicts
 pub mod Sweeps
 pub mod Markings
+pub mod Compaction
 pub mod Completions
 pub mod Collections
 pub mod MajorMarking
+pub mod CompactCommands
 pub mod Refusals
 pub mod Operands
 pub mod StoredWords

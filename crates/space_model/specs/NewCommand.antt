@@ -1,5 +1,5 @@
 -- What `new` tries, one stage after another, and what it replies. The stages and their order are this project's own.
-use Rattle.std.specs.Prelude.{◌≡◌, ◌⊎◌, ℕ, ◌+◌, ◌≤◌, ◌<◌, zero, suc, List, [], ◌∷◌, ◌++◌, length, None}
+use Rattle.std.specs.Prelude.{◌≡◌, ◌≢◌, ◌⊎◌, ℕ, ◌+◌, ◌≤◌, ◌<◌, zero, suc, List, [], ◌∷◌, ◌++◌, length, None}
 use Rattle.space_model.specs.declared.event.Event.{Event}
 use Rattle.space_model.specs.declared.event.Kind.TheVariants.{Full as FullKind}
 use Rattle.space_model.specs.declared.object.Guard.{Guard}
@@ -7,7 +7,9 @@ use Rattle.space_model.specs.declared.object.Style.{Style}
 use Rattle.space_model.specs.declared.reply.Refusal.TheVariants.{TooLarge}
 use Rattle.space_model.specs.declared.reply.Reply.{Reply}
 use Rattle.space_model.specs.declared.reply.Reply.TheVariants.{Made, Full, NoMemory, Refused}
+use Rattle.space_model.specs.declared.phase.Phase.TheVariants.{Moving, Fixing}
 use Rattle.space_model.specs.Collections.{IsCollection}
+use Rattle.space_model.specs.Completions.{Completes}
 use Rattle.space_model.specs.Layout.{most_fields, pool_for, slot_address}
 use Rattle.space_model.specs.Pieces.{Born}
 use Rattle.space_model.specs.Places.{IsNewAt, HasNoFreeAddress, HasNoSpare, IsFreshPage}
@@ -21,6 +23,8 @@ pub data Stage : Type 0 where
   FreeAddress : Stage
   -- the same, after pages that wait were swept, one after another, until one has a free slot
   WaitingPages : Stage
+  -- the same, after a compaction that was under way was completed: until then no page is taken
+  CompletedCompaction : Stage
   -- the first address of the lowest spare page, or of a new page where none is spare
   FreshPage : Stage
   -- a whole collection, while the root still holds what it held
@@ -28,7 +32,7 @@ pub data Stage : Type 0 where
 
 -- the stages before a page is taken
 abbrev pub stages_before_page : List Stage
-stages_before_page = FreeAddress ∷ WaitingPages ∷ []
+stages_before_page = FreeAddress ∷ WaitingPages ∷ CompletedCompaction ∷ []
 
 -- all stages, in their order: after the collection the others are tried again
 abbrev pub all_stages : List Stage
@@ -40,18 +44,28 @@ SweepsInNeed zero s pool t = t ≡ s
 SweepsInNeed (suc pages) s pool t =
     HasNoFreeAddress s pool × (freed : List ℕ) × (mid : State) × Sweep1 s freed mid × SweepsInNeed pages mid pool t
 
--- the stage finds this address for an object of the pool, in the state that it leaves
-abbrev pub Finds : Stage → State → ℕ → State → ℕ → Type 0
-Finds FreeAddress s pool t address = (t ≡ s) × IsNewAt t pool address
-Finds WaitingPages s pool t address = (pages : ℕ) × SweepsInNeed pages s pool t × IsNewAt t pool address
-Finds FreshPage s pool t address = (t ≡ s) × (page : ℕ) × IsFreshPage t page × (address ≡ slot_address page pool 0)
-Finds Collection s pool t address = ⊥
+-- a compaction is under way
+abbrev pub IsCompacting : State → Type 0
+IsCompacting s = (s.collector.phase ≡ Moving) ⊎ (s.collector.phase ≡ Fixing)
+
+-- the stage finds this address for an object of the pool; its events, and the state that it leaves
+abbrev pub Finds : Stage → State → ℕ → List Event → State → ℕ → Type 0
+Finds FreeAddress s pool events t address = (events ≡ []) × (t ≡ s) × IsNewAt t pool address
+Finds WaitingPages s pool events t address = (events ≡ []) × (pages : ℕ) × SweepsInNeed pages s pool t × IsNewAt t pool address
+Finds CompletedCompaction s pool events t address = IsCompacting s × Completes s events t × IsNewAt t pool address
+Finds FreshPage s pool events t address = (events ≡ []) × (t ≡ s) × (page : ℕ) × IsFreshPage t page × (address ≡ slot_address page pool 0)
+Finds Collection s pool events t address = ⊥
+
+-- where a compaction is under way it is completed; else nothing changes
+abbrev pub CompletesCompaction : State → List Event → State → Type 0
+CompletesCompaction s events t = (IsCompacting s × Completes s events t) ⊎ ((IsCompacting s → ⊥) × (events ≡ []) × (t ≡ s))
 
 -- the stage finds none; its events, and the state that it leaves
 abbrev pub Passes : Stage → State → ℕ → List Event → State → Type 0
 Passes FreeAddress s pool events t = HasNoFreeAddress s pool × (events ≡ []) × (t ≡ s)
 Passes WaitingPages s pool events t =
     (pages : ℕ) × SweepsInNeed pages s pool t × HasNoFreeAddress t pool × (t.heap.unswept ≡ []) × (events ≡ [])
+Passes CompletedCompaction s pool events t = CompletesCompaction s events t × HasNoFreeAddress t pool
 Passes FreshPage s pool events t = HasNoSpare s × (length s.heap.pages ≡ s.heap.limit) × (events ≡ []) × (t ≡ s)
 Passes Collection s pool events t = (scans : ℕ) × IsCollection s FullKind events scans t
 
@@ -67,10 +81,13 @@ pub record FindsPlace (s : State) (pool : ℕ) (events : List Event) (ready : St
   pub stage : Stage
   pub after : List Stage
   pub order : all_stages ≡ before ++ stage ∷ after
-  -- the state that the stages before it left
+  -- the state that the stages before it left, and their events
   pub tried : State
-  pub passed : PassesAll before s pool events tried
-  pub found : Finds stage tried pool ready address
+  pub told : List Event
+  pub passed : PassesAll before s pool told tried
+  pub finding : List Event
+  pub found : Finds stage tried pool finding ready address
+  pub events_are : events ≡ told ++ finding
 
 -- an object was made, and stands at the address
 pub record Makes (s : State) (root : List ℕ) (fields : ℕ) (guard : Guard) (style : Style) (events : List Event) (name address : ℕ) (t : State) : Type 0 where

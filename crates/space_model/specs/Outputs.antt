@@ -1,7 +1,7 @@
 -- What a command writes: its events, and then its answer.
 use Rattle.std.specs.Prelude.{ℕ, List, [], ◌∷◌, ◌++◌}
 use Rattle.space_model.specs.declared.event.Event.{Event}
-use Rattle.space_model.specs.declared.event.Event.TheVariants.{Gone, Ran}
+use Rattle.space_model.specs.declared.event.Event.TheVariants.{Gone, Moved, Ran}
 use Rattle.space_model.specs.declared.reply.Reply.{Reply}
 use Rattle.space_model.specs.DumpLines.{DumpLine}
 
@@ -33,3 +33,14 @@ abbrev pub ran_in : List Output → List (ℕ × List ℕ)
 ran_in [] = []
 ran_in (Told event ∷ outputs) = ran_of event ++ ran_in outputs
 ran_in (_ ∷ outputs) = ran_in outputs
+
+-- the name that an event tells to be moved, if it tells one
+abbrev pub moved_of : Event → List ℕ
+moved_of (Moved name from to) = name ∷ []
+moved_of _ = []
+
+-- the names that the outputs tell to be moved, in their order
+abbrev pub moved_in : List Output → List ℕ
+moved_in [] = []
+moved_in (Told event ∷ outputs) = moved_of event ++ moved_in outputs
+moved_in (_ ∷ outputs) = moved_in outputs

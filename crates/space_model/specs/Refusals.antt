@@ -1,7 +1,7 @@
 -- How refusals are found: over all operands, and by one order, never from left to right; and that a refused command changes nothing.
 use Rattle.std.specs.Prelude.{◌≡◌, ℕ, nat_le, if◌then◌else◌, Result, Ok, Err}
 use Rattle.space_model.specs.declared.reply.Refusal.{Refusal}
-use Rattle.space_model.specs.declared.reply.Refusal.TheVariants.{TooLarge, NoRoot, NoWord, NotObject, NoField, Protected, NoId, NotMarking}
+use Rattle.space_model.specs.declared.reply.Refusal.TheVariants.{TooLarge, NoRoot, NoWord, NotObject, NoField, Protected, NoId, NotMarking, NotCompacting}
 use Rattle.space_model.specs.declared.reply.Reply.{Reply}
 use Rattle.space_model.specs.declared.reply.Reply.TheVariants.{Refused}
 use Rattle.space_model.specs.State.{State}
@@ -16,6 +16,7 @@ rank NoField = 4
 rank Protected = 5
 rank NoId = 6
 rank NotMarking = 7
+rank NotCompacting = 8
 
 -- the refusal that comes first in the order
 abbrev pub first_refusal : Refusal → Refusal → Refusal

@@ -16,7 +16,7 @@ use Rattle.space_model.specs.Idents.{IsIdent}
 use Rattle.space_model.specs.Layout.{most_fields, page_of}
 use Rattle.space_model.specs.Moments.{mixed_names}
 use Rattle.space_model.specs.Pages.{pool_at, is_used}
-use Rattle.space_model.specs.Places.{pool_of, IsSlot}
+use Rattle.space_model.specs.Places.{pool_of, IsSlot, IsFree}
 use Rattle.space_model.specs.Reach.{Reach}
 use Rattle.space_model.specs.Roots.{Root, root_value, root_names}
 use Rattle.space_model.specs.State.{State, WeakEntry}
@@ -81,6 +81,13 @@ pub record IsStaleField (graph : List Item) (place left : FinMap nat_cmp ℕ) (n
 pub record SoundStale (graph : List Item) (place left : FinMap nat_cmp ℕ) (stale : List (ℕ × ℕ)) (cursor : ℕ) : Type 0 where
   pub fields : (name index : ℕ) → is_stale stale name index ≡ true → IsStaleField graph place left name index
   pub unvisited : (name index address : ℕ) → is_stale stale name index ≡ true → get place name ≡ Some address → cursor ≤ address
+
+-- while objects may move, no address that is free for the pool of a name that left its address lies below the place of the name: so it moves
+-- once in a compaction
+abbrev pub SoundMoves : State → Type 0
+SoundMoves s =
+    s.collector.phase ≡ Moving → (name address free : ℕ) → is_some (get s.heap.left name) ≡ true → get s.heap.place name ≡ Some address →
+    IsFree s (pool_of s.graph name) free → address ≤ free
 
 -- what is present has present children, and roots hold what is present
 pub record SoundNames (graph : List Item) (roots : List Root) (place : FinMap nat_cmp ℕ) : Type 0 where
@@ -166,6 +173,7 @@ pub record Sound (s : State) : Type 0 where
   pub cursor : SoundCursor s.collector.phase s.collector.cursor
   pub left : SoundLeft s.graph s.heap.place s.heap.corpses s.heap.left s.heap.pages
   pub stale : SoundStale s.graph s.heap.place s.heap.left s.collector.stale s.collector.cursor
+  pub moves : SoundMoves s
   pub names : SoundNames s.graph s.roots s.heap.place
   pub kept : SoundKept s.graph s.heap.place s.collector.kept
   pub ids : SoundIds s.graph s.tables.ids

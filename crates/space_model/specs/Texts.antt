@@ -2,15 +2,15 @@
 use Rattle.std.specs.Prelude.{ℕ, Bool, true, false, Option, None, Some, List, [], ◌∷◌, ◌++◌, codes}
 use Rattle.std.specs.List.{flat_map}
 use Rattle.space_model.specs.declared.event.Event.{Event}
-use Rattle.space_model.specs.declared.event.Event.TheVariants.{Gone, Verdict, Ran}
+use Rattle.space_model.specs.declared.event.Event.TheVariants.{Gone, Verdict, Moved, Ran}
 use Rattle.space_model.specs.declared.event.Kind.{Kind}
 use Rattle.space_model.specs.declared.event.Kind.TheVariants.{Minor, Major, Full as FullKind}
 use Rattle.space_model.specs.declared.reply.Refusal.{Refusal}
-use Rattle.space_model.specs.declared.reply.Refusal.TheVariants.{TooLarge, NoRoot, NoWord, NotObject, NoField, Protected, NoId, NotMarking}
+use Rattle.space_model.specs.declared.reply.Refusal.TheVariants.{TooLarge, NoRoot, NoWord, NotObject, NoField, Protected, NoId, NotMarking, NotCompacting}
 use Rattle.space_model.specs.declared.reply.Reply.{Reply}
 use Rattle.space_model.specs.declared.stat.Stat.{Stat}
 use Rattle.space_model.specs.declared.reply.Reply.TheVariants.{Made, Full, NoMemory, Done, Pushed, Read, Truth, Number as NumberReply, GoneId, Removed, RanCount}
-use Rattle.space_model.specs.declared.reply.Reply.TheVariants.{Scanned, Marked, SweepCount, StatLine, Dumped, ExitRan, Refused}
+use Rattle.space_model.specs.declared.reply.Reply.TheVariants.{Scanned, Marked, SweepCount, MoveCount, FixCount, StatLine, Dumped, ExitRan, Refused}
 use Rattle.space_model.specs.declared.value.Value.{Value}
 use Rattle.space_model.specs.declared.value.Value.TheVariants.{Nil, Small, Name}
 use Rattle.space_model.specs.declared.object.Style.{Style}
@@ -29,6 +29,7 @@ kind_text FullKind = codes "full"
 abbrev pub event_pieces : Event → List Piece
 event_pieces (Gone name) = Say (codes "! gone #") ∷ Number name ∷ []
 event_pieces (Verdict kind gone) = Say (codes "! verdict ") ∷ Say (kind_text kind) ∷ Say (codes " ") ∷ Number gone ∷ []
+event_pieces (Moved name from to) = Say (codes "! move #") ∷ Number name ∷ Say (codes " ") ∷ Hex from ∷ Say (codes " ") ∷ Hex to ∷ []
 event_pieces (Ran name label) = Say (codes "! final #") ∷ Number name ∷ Say (codes " ") ∷ Called label ∷ []
 
 -- `nil`, `=` and a small integer, or `#` and a name
@@ -47,6 +48,7 @@ refusal_text NoField = codes "error no field"
 refusal_text Protected = codes "error protected"
 refusal_text NoId = codes "error no id"
 refusal_text NotMarking = codes "error not marking"
+refusal_text NotCompacting = codes "error not compacting"
 
 -- `true` or `false`
 abbrev pub truth_text : Bool → List ℕ
@@ -78,6 +80,11 @@ stat_pieces stat =
     ++ count_pieces (codes "compact_count") stat.compact_count
     ++ count_pieces (codes "total_moved_objects") stat.total_moved_objects
 
+-- what tells that nothing is left to do
+abbrev pub done_text : Bool → List ℕ
+done_text true = codes " done"
+done_text false = []
+
 -- the pieces of the line of a reply
 abbrev pub reply_pieces : Reply → List Piece
 reply_pieces (Made name address) = Say (codes "#") ∷ Number name ∷ Say (codes " ") ∷ Hex address ∷ []
@@ -94,6 +101,8 @@ reply_pieces (RanCount count) = Say (codes "ran ") ∷ Number count ∷ []
 reply_pieces (Scanned count) = Say (codes "ok scanned ") ∷ Number count ∷ []
 reply_pieces (Marked scanned grey) = Say (codes "scanned ") ∷ Number scanned ∷ Say (codes " grey ") ∷ Number grey ∷ []
 reply_pieces (SweepCount freed left) = Say (codes "freed ") ∷ Number freed ∷ Say (codes " left ") ∷ Number left ∷ []
+reply_pieces (MoveCount moved done) = Say (codes "moved ") ∷ Number moved ∷ Say (done_text done) ∷ []
+reply_pieces (FixCount fixed done) = Say (codes "fixed ") ∷ Number fixed ∷ Say (done_text done) ∷ []
 reply_pieces (StatLine stat) = Say (codes "stat") ∷ stat_pieces stat
 reply_pieces (Dumped count) = Say (codes "ok dumped ") ∷ Number count ∷ []
 reply_pieces (ExitRan count) = Say (codes "ok ran ") ∷ Number count ∷ []

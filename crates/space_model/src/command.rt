@@ -141,6 +141,17 @@ pub enum Command {
     Sweep {
         count: u64,
     },
+    /// A whole collection and the sweep of all pages; then a compaction begins, which goes on over later commands (`GC.compact` of
+    /// CRuby 3.3).
+    Compact,
+    /// The compaction that is under way makes so many moves, or all that are left where fewer are.
+    Move {
+        count: u64,
+    },
+    /// The compaction that is under way corrects the references of so many objects; where none is left it ends.
+    Fix {
+        count: u64,
+    },
     /// Tells the counts of the space.
     Stat,
     /// Lists the objects that aren't gone, each by a line of JSON (`ObjectSpace.dump_all` of CRuby 3.3).

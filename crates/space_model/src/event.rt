@@ -19,6 +19,8 @@ pub enum Event {
     Gone { name: u64 },
     /// A verdict was given, and this many objects are gone by it.
     Verdict { kind: Kind, gone: u64 },
+    /// The object with this name was moved from the first address to the second, both a number of bytes.
+    Moved { name: u64, from: u64, to: u64 },
     /// The finalizer of the object with this name ran that was defined with this label.
     Ran { name: u64, label: Ident },
 }

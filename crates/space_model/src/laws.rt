@@ -2,6 +2,7 @@
 ghost use Rattle.space_model.specs.Laws.{ReachHasStarts, ReachIsClosed, ReachIsLeast, ReachIsListed, ReachIsListedOnce, NotingIsDone, NotingStays};
 ghost use Rattle.space_model.specs.Laws.{OpeningIsSound, LawfulIsSound, LawfulAllIsSound, InputsAreGiven};
 ghost use Rattle.space_model.specs.Laws.{StartMarkIsSound, TookIsSound, Sweep1IsSound, SweepsAreSound, SweepAllEnds, SweepsAreCounted, SweepIsThere, CompletesIsSound};
+ghost use Rattle.space_model.specs.Laws.{MovingIsSound, MoveIsSound, FixingIsSound, VisitIsSound, CompactionEndIsSound};
 ghost use Rattle.space_model.specs.Laws.{StatIsThere, CountsAreOne};
 ghost use Rattle.space_model.specs.TableLaws.{IdsStay, IdsAreOne, EntriesGoWithObjects, SetIsRead, DeletedIsGone, SizeIsOfKeys};
 ghost use Rattle.space_model.specs.FinalLaws.{FinalsRunOnce, QueueStays, FinalsRunOfSwept, ExitLeavesNothing, ExitIsThere, DumpIsThere, DumpIsOne};
@@ -10,7 +11,7 @@ ghost use Rattle.space_model.specs.Laws.{SweepsKeepPlaces, SweepsKeepReach, Comp
 ghost use Rattle.space_model.specs.Laws.{CollectionScansReached, FullCollectionLeavesReached, CollectionsKeepGraph, GcIsThere, MinorIsThere};
 ghost use Rattle.space_model.specs.Laws.{CompletionIsThere, MajorIsThere, MarkIsThere, FinishIsThere};
 ghost use Rattle.space_model.specs.Laws.{FullIsFullAt, FullLeavesReachedBefore, NewMakesNone};
-ghost use Rattle.space_model.specs.Laws.{ReachedArePresent, VisibleIsReached, ReachedIsVisible, ReachedStay, PlacesStay, LimitStays, WordsKeepValues};
+ghost use Rattle.space_model.specs.Laws.{ReachedArePresent, VisibleIsReached, ReachedIsVisible, ReachedStay, PlacesStay, PinnedStay, LimitStays, WordsKeepValues};
 ghost use Rattle.space_model.specs.Laws.{GoneAreTold, GoneAreToldInOrder, GoneAreToldOnce, GoneStayGone, PushedIsTop, NamedIsTold, TextsDiffer};
 
 /// What is reached is the least set, of those that a test decides, that has the starts, and with each name its children.
@@ -46,6 +47,15 @@ pub fn collections_are_sound()
     ensures counted { SweepsAreCounted }
     ensures possible { SweepIsThere }
     ensures completed { CompletesIsSound }
+{}
+
+/// The pieces of a compaction keep states sound.
+pub fn compactions_are_sound()
+    ensures begins { MovingIsSound }
+    ensures moved { MoveIsSound }
+    ensures fixing { FixingIsSound }
+    ensures visited { VisitIsSound }
+    ensures ended { CompactionEndIsSound }
 {}
 
 /// The counts of a space can be told, and where no names may be kept but those that are for certain there are no others.
@@ -94,14 +104,15 @@ pub fn full_is_full()
     ensures same { NewMakesNone }
 {}
 
-/// Nothing that a line's root or a stack word leads to goes, but by `exit`. What is present before and after a command stands where it stood, so
-/// each word that stays on the stack keeps its value. The limit of pages never changes.
+/// Nothing that a line's root or a stack word leads to goes, but by `exit`. What is present before and after a command stands where it stood,
+/// unless an event tells that it was moved; and what a stack word names isn't, so each word that stays on the stack keeps its value. The limit of pages never changes.
 pub fn what_is_reached_stays()
     ensures present { ReachedArePresent }
     ensures visible { VisibleIsReached }
     ensures all_visible { ReachedIsVisible }
     ensures stays { ReachedStay }
     ensures places { PlacesStay }
+    ensures pinned { PinnedStay }
     ensures words { WordsKeepValues }
     ensures limit { LimitStays }
 {}

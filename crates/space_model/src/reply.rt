@@ -20,6 +20,8 @@ pub enum Refusal {
     NoId,
     /// No major marking is under way.
     NotMarking,
+    /// No compaction is under way that could do this.
+    NotCompacting,
 }
 
 /// The last line of a command.
@@ -54,6 +56,10 @@ pub enum Reply {
     Marked { scanned: u64, grey: u64 },
     /// So many slots of gone objects were made free, and so many pages with a pool still wait for a sweep.
     SweepCount { freed: u64, left: u32 },
+    /// So many objects were moved, and whether no further one can be.
+    MoveCount { moved: u64, done: bool },
+    /// The references of so many objects were corrected, and whether the compaction ended.
+    FixCount { fixed: u64, done: bool },
     /// The counts of the space.
     StatLine { stat: Stat },
     /// So many objects were listed.

@@ -8,7 +8,7 @@ use Rattle.std.specs.Str.Parse.{digits_value}
 use Rattle.space_model.specs.declared.command.Command.{Command}
 use Rattle.space_model.specs.declared.command.Command.TheVariants.{New, Set, DropRoot, Push, Raw, Pop, Store, RawStore, Load, Same, Unprotect}
 use Rattle.space_model.specs.declared.command.Command.TheVariants.{Id, ById, WeakSet, WeakGet, WeakKey, WeakSize, WeakDelete}
-use Rattle.space_model.specs.declared.command.Command.TheVariants.{Final, Unfinal, Run, Minor, Gc, Major, Mark, Finish, Sweep, Stat, Dump, Peek, Exit}
+use Rattle.space_model.specs.declared.command.Command.TheVariants.{Final, Unfinal, Run, Minor, Gc, Major, Mark, Finish, Sweep, Compact, Move, Fix, Stat, Dump, Peek, Exit}
 use Rattle.space_model.specs.declared.command.Input.{Input}
 use Rattle.space_model.specs.declared.command.Input.TheVariants.{From, Nil, Small}
 use Rattle.space_model.specs.declared.command.Operand.{Operand}
@@ -130,6 +130,14 @@ abbrev sweep_of : List (List ℕ) → Option Command
 sweep_of (count ∷ rest) = Some (Sweep (digits_value 10 count))
 sweep_of _ = None
 
+abbrev move_of : List (List ℕ) → Option Command
+move_of (count ∷ rest) = Some (Move (digits_value 10 count))
+move_of _ = None
+
+abbrev fix_of : List (List ℕ) → Option Command
+fix_of (count ∷ rest) = Some (Fix (digits_value 10 count))
+fix_of _ = None
+
 abbrev form_of : List ℕ → List (List ℕ) → Option Command
 form_of name words =
     if bytes_eq name (codes "new") then new_of words
@@ -159,6 +167,9 @@ form_of name words =
     else if bytes_eq name (codes "mark") then mark_of words
     else if bytes_eq name (codes "finish") then Some Finish
     else if bytes_eq name (codes "sweep") then sweep_of words
+    else if bytes_eq name (codes "compact") then Some Compact
+    else if bytes_eq name (codes "move") then move_of words
+    else if bytes_eq name (codes "fix") then fix_of words
     else if bytes_eq name (codes "stat") then Some Stat
     else if bytes_eq name (codes "dump") then Some Dump
     else if bytes_eq name (codes "peek") then peek_of words
@@ -241,6 +252,9 @@ command_is words Major (_, _, e, f, _) = rw (e, f) refl
 command_is words (Mark count) (_, _, e, f, (_, _, e1, f1, _)) = rw (e, f, e1, f1.value) refl
 command_is words Finish (_, _, e, f, _) = rw (e, f) refl
 command_is words (Sweep count) (_, _, e, f, (_, _, e1, f1, _)) = rw (e, f, e1, f1.value) refl
+command_is words Compact (_, _, e, f, _) = rw (e, f) refl
+command_is words (Move count) (_, _, e, f, (_, _, e1, f1, _)) = rw (e, f, e1, f1.value) refl
+command_is words (Fix count) (_, _, e, f, (_, _, e1, f1, _)) = rw (e, f, e1, f1.value) refl
 command_is words Stat (_, _, e, f, _) = rw (e, f) refl
 command_is words Dump (_, _, e, f, _) = rw (e, f) refl
 command_is words (Peek object) (_, _, e, f, (a, _, e1, f1, _)) = rw (e, f, e1, operand_is a object f1) refl

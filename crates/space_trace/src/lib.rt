@@ -3,6 +3,7 @@
 #![tactic(auto)]
 
 mod collection_commands;
+mod compact_commands;
 mod dump_commands;
 mod final_commands;
 mod id_commands;

@@ -8,10 +8,10 @@ use itoa::write_digits;
 use std::marker::Model;
 
 /// What stands at the end of a line. Pieces are put before it, the last one first, so that the digits of a number are
-/// written where they stay. It takes no memory: the longest line of output has fewer bytes than its 64.
+/// written where they stay. It takes no memory: the longest line of output has fewer bytes than its 72.
 #[derive(Drop)]
 pub struct LineEnd {
-    bytes: [u8; 64],
+    bytes: [u8; 72],
     // Where it starts.
     start: usize,
 }
@@ -23,7 +23,7 @@ impl Model for LineEnd {
 
     ghost view = { λ l. drop l.start l.bytes };
 
-    ghost invariant = { λ l. (l.start ≤ 64) × (length l.bytes ≡ 64) };
+    ghost invariant = { λ l. (l.start ≤ 72) × (length l.bytes ≡ 72) };
 }
 
 // The digit's byte: `0` to `9` and `a` to `f`.
@@ -44,8 +44,8 @@ impl LineEnd {
         ensures { result ≡ [] }
     {
         LineEnd {
-            bytes: [0; 64],
-            start: 64,
+            bytes: [0; 72],
+            start: 72,
         }
     }
 
@@ -58,7 +58,7 @@ impl LineEnd {
 
     /// Puts the text before it.
     pub fn put(&mut self, text: &[u8])
-        requires { length text.now + length self.old ≤ 64 }
+        requires { length text.now + length self.old ≤ 72 }
         ensures { self.new ≡ text.now ++ self.old }
     {
         let start = self.start - text.len();
@@ -68,7 +68,7 @@ impl LineEnd {
 
     /// Puts the number before it, in base 10.
     pub fn put_decimal(&mut self, number: u64)
-        requires { length self.old ≤ 44 }
+        requires { length self.old ≤ 52 }
         ensures items { self.new ≡ decimal number ++ self.old }
         ensures len { length self.new ≤ length self.old + 20 }
     {
@@ -77,7 +77,7 @@ impl LineEnd {
 
     // Puts the digits of the number before it, in base 16, and none for 0.
     fn put_hex_digits(&mut self, number: u64)
-        requires { length (digits_of 16 number) + length self.old ≤ 64 }
+        requires { length (digits_of 16 number) + length self.old ≤ 72 }
         ensures items { self.new ≡ hex_digits number ++ self.old }
         ensures len { length self.new ≡ length (digits_of 16 number) + length self.old }
     {
@@ -90,7 +90,7 @@ impl LineEnd {
 
     /// Puts the number before it, in base 16 behind `0x`.
     pub fn put_hex(&mut self, number: u64)
-        requires { length self.old ≤ 46 }
+        requires { length self.old ≤ 54 }
         ensures items { self.new ≡ hex number ++ self.old }
         ensures len { length self.new ≤ length self.old + 18 }
     {

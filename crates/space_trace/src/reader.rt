@@ -5,6 +5,7 @@ ghost use Rattle.space_model.specs.Grammar.{without_cr, IsBlank, IsReading};
 ghost use Rattle.space_trace.specs.WordsLeft.{words_in, ReadsWords};
 
 use crate::collection_commands::{read_gc, read_minor, read_stat, read_sweep};
+use crate::compact_commands::{read_compact, read_fix, read_move};
 use crate::dump_commands::{read_dump, read_exit, read_peek};
 use crate::final_commands::{read_final, read_run, read_unfinal};
 use crate::id_commands::{read_by_id, read_id};
@@ -83,6 +84,9 @@ fn command_of_words(name: &[u8], rest: Option<&[u8]>) -> Option<Command>
         _ if name == b"dump".as_slice() => read_dump(rest),
         _ if name == b"peek".as_slice() => read_peek(rest),
         _ if name == b"exit".as_slice() => read_exit(rest),
+        _ if name == b"compact".as_slice() => read_compact(rest),
+        _ if name == b"move".as_slice() => read_move(rest),
+        _ if name == b"fix".as_slice() => read_fix(rest),
         _ => None,
     }
 }

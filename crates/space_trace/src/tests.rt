@@ -6,7 +6,7 @@ use std::alloc::{AllocError as NoMemory, Global};
 use std::test::Fail;
 
 // The line, and how its command is spelled.
-const FORMS: [(&[u8], &[u8]); 64] = [
+const FORMS: [(&[u8], &[u8]); 69] = [
     (b"new a 3 P M", b"new a 3 P M\n"),
     (b"new a 79 P M", b"new a 79 P M\n"),
     (
@@ -98,12 +98,17 @@ const FORMS: [(&[u8], &[u8]); 64] = [
     (b"dump", b"dump\n"),
     (b"peek a", b"peek a\n"),
     (b"exit\r", b"exit\n"),
+    (b"compact", b"compact\n"),
+    (b"move 0", b"move 0\n"),
+    (b"move 18446744073709551615", b"move 18446744073709551615\n"),
+    (b"fix 007\r", b"fix 7\n"),
+    (b"fix 18446744073709551615", b"fix 18446744073709551615\n"),
 ];
 
 // Lines without a command.
 const BLANK: [&[u8]; 5] = [b"", b"\r", b";", b"; a comment", b";same a b\r"];
 
-const MALFORMED: [&[u8]; 97] = [
+const MALFORMED: [&[u8]; 106] = [
     b" ",
     b" ; a comment",
     b"\r\r",
@@ -201,9 +206,18 @@ const MALFORMED: [&[u8]; 97] = [
     b"peek",
     b"peek a b",
     b"exit 1",
+    b"compact 1",
+    b"compacts",
+    b"move",
+    b"move a",
+    b"move 1 2",
+    b"move 18446744073709551616",
+    b"fix ",
+    b"fix nil",
+    b"fix 1 2",
 ];
 
-const EVENTS: [(Event, &[u8]); 4] = [
+const EVENTS: [(Event, &[u8]); 6] = [
     (Event::Gone { name: 7 }, b"! gone #7\n"),
     (
         Event::Verdict {
@@ -225,6 +239,22 @@ const EVENTS: [(Event, &[u8]); 4] = [
             gone: 3,
         },
         b"! verdict full 3\n",
+    ),
+    (
+        Event::Moved {
+            name: 3,
+            from: 65576,
+            to: 0,
+        },
+        b"! move #3 0x10028 0x0\n",
+    ),
+    (
+        Event::Moved {
+            name: u64::MAX,
+            from: u64::MAX,
+            to: u64::MAX,
+        },
+        b"! move #18446744073709551615 0xffffffffffffffff 0xffffffffffffffff\n",
     ),
 ];
 
@@ -258,7 +288,7 @@ const MOST_COUNTS: Stat = Stat {
     total_moved_objects: u64::MAX,
 };
 
-const REPLIES: [(Reply, &[u8]); 36] = [
+const REPLIES: [(Reply, &[u8]); 41] = [
     (
         Reply::Made {
             name: 1,
@@ -359,6 +389,34 @@ const REPLIES: [(Reply, &[u8]); 36] = [
         b"freed 18446744073709551615 left 4294967295\n",
     ),
     (
+        Reply::MoveCount {
+            moved: 0,
+            done: true,
+        },
+        b"moved 0 done\n",
+    ),
+    (
+        Reply::MoveCount {
+            moved: 5,
+            done: false,
+        },
+        b"moved 5\n",
+    ),
+    (
+        Reply::FixCount {
+            fixed: 18446744073709551615,
+            done: true,
+        },
+        b"fixed 18446744073709551615 done\n",
+    ),
+    (
+        Reply::FixCount {
+            fixed: 0,
+            done: false,
+        },
+        b"fixed 0\n",
+    ),
+    (
         Reply::StatLine { stat: COUNTS },
         b"stat count=1 minor_gc_count=2 major_gc_count=3 heap_allocated_pages=4 heap_live_slots=5 heap_free_slots=6 total_allocated_objects=7 total_freed_objects=8 old_objects=9 remembered_wb_unprotected_objects=10 compact_count=11 total_moved_objects=12\n",
     ),
@@ -408,6 +466,12 @@ const REPLIES: [(Reply, &[u8]); 36] = [
             why: Refusal::NotMarking,
         },
         b"error not marking\n",
+    ),
+    (
+        Reply::Refused {
+            why: Refusal::NotCompacting,
+        },
+        b"error not compacting\n",
     ),
 ];
 

@@ -6,11 +6,12 @@ ghost use Rattle.space_io.specs.Causes.{HasCause};
 ghost use Rattle.space_io.specs.Sinks.{AppendsPrefix, AppendsPart};
 ghost use Rattle.space_model.specs.CommandTexts.{command_pieces};
 ghost use Rattle.space_model.specs.Spelling.{text_of_pieces, IsSpelled};
-ghost use Rattle.space_model.specs.Texts.{kind_text, event_pieces, value_pieces, refusal_text, truth_text, named_pieces, reply_pieces, peek_pieces, malformed_pieces, line_of_pieces};
+ghost use Rattle.space_model.specs.Texts.{kind_text, event_pieces, value_pieces, refusal_text, truth_text, named_pieces, done_text, reply_pieces, peek_pieces, malformed_pieces, line_of_pieces};
 ghost use Rattle.space_model.specs.Layout.{most_fields};
 ghost use Rattle.space_trace.specs.StatReplies.{is_stat};
 
 use crate::collection_commands::{put_gc, put_minor, put_stat_command, put_sweep};
+use crate::compact_commands::{put_compact, put_fix, put_move};
 use crate::dump_commands::{put_dump, put_exit, put_peek_command};
 use crate::final_commands::{put_final, put_run, put_unfinal};
 use crate::id_commands::{put_by_id, put_id};
@@ -84,6 +85,9 @@ fn put_command(line: &mut LineBuffer, command: Command)
         Command::Mark { count } => put_mark(line, count),
         Command::Finish => put_finish(line),
         Command::Sweep { count } => put_sweep(line, count),
+        Command::Compact => put_compact(line),
+        Command::Move { count } => put_move(line, count),
+        Command::Fix { count } => put_fix(line, count),
         Command::Stat => put_stat_command(line),
         Command::Dump => put_dump(line),
         Command::Peek { object } => put_peek_command(line, object),
@@ -158,6 +162,14 @@ fn put_event(line: &mut LineEnd, event: &Event)
             line.put(kind_bytes(*kind));
             line.put(b"! verdict ");
         }
+        Event::Moved { name, from, to } => {
+            line.put_hex(*to);
+            line.put(b" ");
+            line.put_hex(*from);
+            line.put(b" ");
+            line.put_decimal(*name);
+            line.put(b"! move #");
+        }
         Event::Ran { name, label } => {
             line.put(label.bytes());
             line.put(b" ");
@@ -199,6 +211,7 @@ fn refusal_bytes(why: Refusal) -> &'static [u8]
         Refusal::Protected => b"error protected",
         Refusal::NoId => b"error no id",
         Refusal::NotMarking => b"error not marking",
+        Refusal::NotCompacting => b"error not compacting",
     }
 }
 
@@ -223,6 +236,13 @@ fn truth_bytes(truth: bool) -> &'static [u8]
     ensures len { length result.now ≤ 5 }
 {
     if truth { b"true" } else { b"false" }
+}
+
+fn done_bytes(done: bool) -> &'static [u8]
+    ensures text { result.now ≡ done_text done }
+    ensures len { length result.now ≤ 5 }
+{
+    if done { b" done" } else { b"" }
 }
 
 // Puts the reply's line before its LF, its last piece first. That of the counts has a buffer of its own.
@@ -275,6 +295,16 @@ fn put_reply(line: &mut LineEnd, reply: &Reply)
             line.put(b" left ");
             line.put_decimal(*freed);
             line.put(b"freed ");
+        }
+        Reply::MoveCount { moved, done } => {
+            line.put(done_bytes(*done));
+            line.put_decimal(*moved);
+            line.put(b"moved ");
+        }
+        Reply::FixCount { fixed, done } => {
+            line.put(done_bytes(*done));
+            line.put_decimal(*fixed);
+            line.put(b"fixed ");
         }
         Reply::StatLine { .. } => unreachable!(),
         Reply::Dumped { count } => {

@@ -1,4 +1,4 @@
-use Rattle.std.proofs.Common.{◌++◌, length, ap}
+use Rattle.std.proofs.Common.{◌++◌, length, refl, ap}
 use Rattle.space_model.specs.declared.event.Kind.TheVariants.{Minor, Full}
 use Rattle.space_model.specs.Reached.{reached_names}
 use Rattle.space_model.specs.Roots.{root_value}
@@ -13,10 +13,10 @@ pub returns-clause-places : goal.returns-clause-places
 returns-clause-places c = Sweeps-place
 
 pub returns-clause-swept : goal.returns-clause-swept
-returns-clause-swept c = λ pages s t freed sweeps name. leaves_reach s _ t (leaves_swept pages s t freed sweeps) name
+returns-clause-swept c = λ pages s t freed sweeps name. leaves_reach s _ t (leaves_swept pages s t freed sweeps) refl name
 
 pub returns-clause-completed : goal.returns-clause-completed
-returns-clause-completed c = λ s t events moves completes name reached. (completed_reach s t events completes name).0 reached
+returns-clause-completed c = λ s t events moves completes name reached. (completed_reach s t events completes moves name).0 reached
 
 pub returns-clause-outlives : goal.returns-clause-outlives
 returns-clause-outlives c = completed_present

@@ -1,4 +1,4 @@
-use Rattle.space_model.proofs.PlacesAfter.{reached_present, reached_there, present_stays, limit_stays}
+use Rattle.space_model.proofs.PlacesAfter.{reached_present, reached_there, present_stays, pinned_stays, limit_stays}
 use Rattle.space_model.proofs.VisibleLaws.{visible_reached, reached_visible}
 use Rattle.space_model.proofs.WordsKept.{words_keep}
 use Rattle.space_model.proofs.laws.what_is_reached_stays.Goals as goal
@@ -17,6 +17,9 @@ returns-clause-stays c = λ s t command outputs other l h name visible. reached_
 
 pub returns-clause-places : goal.returns-clause-places
 returns-clause-places c = present_stays
+
+pub returns-clause-pinned : goal.returns-clause-pinned
+returns-clause-pinned c = pinned_stays
 
 pub returns-clause-words : goal.returns-clause-words
 returns-clause-words c = words_keep
