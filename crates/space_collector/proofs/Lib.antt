@@ -10,3 +10,7 @@ pub mod NeededSweeps
 pub mod HeapVerdictLaws
 pub mod ToldLines
 mod KindMarkings
+pub mod MoveLaws
+mod MoveLines
+pub mod MovingLaws
+pub mod MoveEvents

@@ -42,7 +42,7 @@ fn mark<L: Ledger>(
     requires steps { steps.old < 2 ^ 62 }
     requires none_gone { HasNoGone heap.old }
     ensures marking { IsKindMarking heap.old heap.new kind (root_words roots.now) stack.now result }
-    ensures few { result < 2 ^ 27 }
+    ensures few { result < 2 ^ 24 }
     ensures ticked { steps.new ≡ steps.old + result }
 {
     match kind {
@@ -67,7 +67,7 @@ pub fn collect<L: Ledger>(
     requires able { CanCollect kind heap.old }
     requires steps { steps.old < 2 ^ 62 }
     ensures verdict { IsHeapVerdict heap.old heap.new kind (root_words roots.now) stack.now result.scans }
-    ensures few { result.scans < 2 ^ 27 }
+    ensures few { result.scans < 2 ^ 24 }
     ensures gone { result.gone ≡ length (gone_names heap.new) }
     ensures most { result.gone ≤ most_slots }
     ensures quiescent { IsQuiescent heap.new }

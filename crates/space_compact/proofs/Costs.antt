@@ -50,5 +50,5 @@ one_step v from a before count after few above stands least most =
     }
 
 -- no heap has so many objects
-pub few_steps : (v : HeapView) (from before after : ℕ) → IsSoundHeap v → AreFewSteps v from before after → after < before + 2 ^ 26
+pub few_steps : (v : HeapView) (from before after : ℕ) → IsSoundHeap v → AreFewSteps v from before after → after < before + 2 ^ 23
 few_steps v from before after sound few = let n = few_in_sound v sound few.places few.once few.occupied in let m = few.most in omega arith

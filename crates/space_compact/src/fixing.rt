@@ -62,7 +62,7 @@ fn visit_up_to<L: Ledger>(heap: &mut Heap, n: u64, steps: &mut Steps<L>) -> u64
     requires { steps.old < 2 ^ 62 }
     ensures visits { Visits result heap.old heap.new }
     ensures most { result ≤ n }
-    ensures few { result < 2 ^ 26 }
+    ensures few { result < 2 ^ 23 }
     ensures fewer { result < n → HasNoObjectFrom heap.new heap.new.cursor }
     ensures ticks { steps.new ≡ steps.old + result }
 {
@@ -86,7 +86,7 @@ pub fn fix<L: Ledger>(heap: &mut Heap, n: u64, steps: &mut Steps<L>) -> Fixed
     requires { steps.old < 2 ^ 62 }
     ensures visits { Visits result.slots heap.old heap.new }
     ensures most { result.slots ≤ n }
-    ensures few { result.slots < 2 ^ 26 }
+    ensures few { result.slots < 2 ^ 23 }
     ensures done { result.done ≡ true → HasNoObjectFrom heap.new heap.new.cursor }
     ensures more { result.done ≡ false → (result.slots ≡ n) × (HasNoObjectFrom heap.new heap.new.cursor → ⊥) }
     ensures ticks { steps.new ≡ steps.old + result.slots }
@@ -100,7 +100,7 @@ pub fn fix<L: Ledger>(heap: &mut Heap, n: u64, steps: &mut Steps<L>) -> Fixed
 pub fn fix_all<L: Ledger>(heap: &mut Heap, steps: &mut Steps<L>) -> u64
     requires { steps.old < 2 ^ 62 }
     ensures visits { Visits result heap.old heap.new }
-    ensures few { result < 2 ^ 26 }
+    ensures few { result < 2 ^ 23 }
     ensures all { HasNoObjectFrom heap.new heap.new.cursor }
     ensures ticks { steps.new ≡ steps.old + result }
 {

@@ -75,7 +75,7 @@ fn pin_if_keeping<L: Ledger>(heap: &mut Heap, address: u64, steps: &mut Steps<L>
 fn pin_kept<L: Ledger>(heap: &mut Heap, steps: &mut Steps<L>)
     requires { steps.old < 2 ^ 62 }
     ensures pins { PinsKept heap.old heap.new }
-    ensures few { steps.new < steps.old + 2 ^ 26 }
+    ensures few { steps.new < steps.old + 2 ^ 23 }
     ensures counts { steps.old ≤ steps.new }
 {
     // Its clause `sound` tells that there are few objects, and that their addresses are small.
@@ -93,7 +93,7 @@ fn pin_kept<L: Ledger>(heap: &mut Heap, steps: &mut Steps<L>)
 pub fn pin_now<L: Ledger>(heap: &mut Heap, stack: &Stack, steps: &mut Steps<L>)
     requires { steps.old < 2 ^ 62 }
     ensures pins { PinsNow heap.old heap.new stack.now }
-    ensures few { steps.new < steps.old + 2 ^ 26 }
+    ensures few { steps.new < steps.old + 2 ^ 23 }
     ensures counts { steps.old ≤ steps.new }
 {
     heap.unpin();

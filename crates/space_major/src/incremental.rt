@@ -45,7 +45,7 @@ pub fn mark<L: Ledger>(heap: &mut Heap, n: u64, steps: &mut Steps<L>) -> Marked
     ensures goes_on { GoesOn heap.old heap.new result.scanned }
     ensures grey { result.grey ≡ length heap.new.grey }
     ensures coherent { IsCoherent heap.new }
-    ensures small { result.scanned < 2 ^ 26 }
+    ensures small { result.scanned < 2 ^ 23 }
     ensures ticks { steps.new ≡ steps.old + result.scanned }
 {
     let scanned = scan_some(heap, n, steps);
@@ -84,7 +84,7 @@ pub fn finish<L: Ledger>(heap: &mut Heap, roots: &Roots, stack: &Stack, steps: &
     ensures marked { HasNoGone heap.old → IsTricolour heap.old → (n : ℕ) → IsMarked heap.new n ↔ IsMarkedAtEnd heap.old (root_words roots.now) stack.now n }
     ensures counted { CountsAre (IsFinishScan heap.old) (IsNewlyBlack heap.old heap.new) result }
     ensures noted { IsNoted heap.old heap.new (IsFinishScanned heap.old heap.new) }
-    ensures few { result < 2 ^ 27 }
+    ensures few { result < 2 ^ 24 }
     ensures ticks { steps.new ≡ steps.old + result }
     ensures no_list { heap.new.grey ≡ [] }
     ensures none_grey { (n : ℕ) → colour_of heap.new n ≢ Colour.Grey }

@@ -29,7 +29,7 @@ pub fn whole<L: Ledger>(heap: &mut Heap, roots: &Roots, stack: &Stack, steps: &m
     requires { steps.old < 2 ^ 62 }
     ensures marked { (n : ℕ) → IsMarked heap.new n ↔ IsLive heap.old (root_words roots.now) stack.now n }
     ensures counted { CountIs (IsLive heap.old (root_words roots.now) stack.now) result }
-    ensures few { result < 2 ^ 26 }
+    ensures few { result < 2 ^ 23 }
     ensures ticks { steps.new ≡ steps.old + result }
     ensures no_list { heap.new.grey ≡ [] }
     ensures none_grey { (n : ℕ) → colour_of heap.new n ≢ Colour.Grey }

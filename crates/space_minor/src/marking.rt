@@ -45,7 +45,7 @@ pub fn minor<L: Ledger>(heap: &mut Heap, roots: &Roots, stack: &Stack, steps: &m
     ensures marked { IsGenerational heap.old → (n : ℕ) → IsMarked heap.new n ↔ IsSpared heap.old (root_words roots.now) stack.now n }
     ensures counted { CountsAre (IsMinorScan heap.old) (IsNewlyMarked heap.old heap.new) result }
     ensures noted { IsNoted (old_marked heap.old) heap.new (IsMinorScanned heap.old heap.new) }
-    ensures few { result < 2 ^ 27 }
+    ensures few { result < 2 ^ 24 }
     ensures ticks { steps.new ≡ steps.old + result }
     ensures no_list { heap.new.grey ≡ [] }
     ensures none_grey { (n : ℕ) → colour_of heap.new n ≢ Colour.Grey }

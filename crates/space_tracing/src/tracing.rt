@@ -100,7 +100,7 @@ pub fn drain<L: Ledger>(heap: &mut Heap, steps: &mut Steps<L>) -> u64
     ensures goes_on { GoesOn heap.old heap.new result }
     ensures no_list { heap.new.grey ≡ [] }
     ensures none_grey { (n : ℕ) → colour_of heap.new n ≢ Colour.Grey }
-    ensures few { result < 2 ^ 26 }
+    ensures few { result < 2 ^ 23 }
     ensures ticks { steps.new ≡ steps.old + result }
 {
     let mut scans: u64 = 0;
@@ -119,7 +119,7 @@ pub fn scan_some<L: Ledger>(heap: &mut Heap, count: u64, steps: &mut Steps<L>) -
     ensures few { result ≤ count }
     ensures all { result < count → heap.new.grey ≡ [] }
     ensures goes_on { GoesOn heap.old heap.new result }
-    ensures small { result < 2 ^ 26 }
+    ensures small { result < 2 ^ 23 }
     ensures ticks { steps.new ≡ steps.old + result }
 {
     let mut made: u64 = 0;
