@@ -46,7 +46,7 @@ module _ (v : HeapView) (address index word : ℕ) (there : is_object v address 
   }
 
   pub turn_stored : IsOneTurn v z
-  turn_stored = turn_alike 3 v z alike (barrier.same.counters ∙ (rest-with_object v address _).counters)
+  turn_stored = turn_alike 3 2 v z alike (barrier.same.counters ∙ (rest-with_object v address _).counters)
 
 -- the write barrier stopped protecting an object
 module _ (v : HeapView) (address : ℕ) (there : is_object v address ≡ true) where
@@ -68,7 +68,7 @@ module _ (v : HeapView) (address : ℕ) (there : is_object v address ≡ true) w
       (unprotected_keeps (λ (o : ObjectView). o.colour) before refl refl)
 
   pub turn_unprotected : IsOneTurn v u
-  turn_unprotected = turn_alike 3 v u (record {
+  turn_unprotected = turn_alike 3 2 v u (record {
     phase = changed.rest.phase;
     unswept = changed.rest.unswept;
     grey = λ rests. changed.rest.grey;

@@ -22,14 +22,14 @@ use Rattle.space_heap.specs.SoundHeap.{IsSoundHeap}
 use Rattle.space_heap.specs.Sweeping.{HasNoGone}
 use Rattle.space_roots.specs.WordRoots.{root_words}
 use Rattle.space_collector.specs.GoneNames.{gone_names}
-use Rattle.space_collector.specs.PagesSwept.{SweepsPages, SweepsAll}
-use Rattle.space_collector.proofs.HeapSweeps.{heap_pages, sweeps_none}
-use Rattle.space_collector.proofs.AllSweeps.{sound_pages}
-use Rattle.space_engine.specs.HeapCollections.{EndsAndSweeps, IsHeapCompletion, CompletesAtRest, IsCompletion, IsCollected}
+use Rattle.space_collector.specs.PagesSwept.{SweepsAll}
+use Rattle.space_collector.proofs.HeapSweeps.{sweeps_none}
+use Rattle.space_engine.specs.HeapCollections.{EndsAndSweeps, IsHeapCompletion, IsCompletion, IsCollected}
 use Rattle.space_engine.specs.Stands.{Represents, Holds}
-use Rattle.space_engine.specs.Ticks.{AreCompletionScans}
+use Rattle.space_engine.specs.Ticks.{AreCompletionScans, IsResting}
 use Rattle.space_engine.specs.Turns.{IsAtRest}
-use Rattle.space_engine.specs.Views.{View, with_finals, with_swept, with_judged}
+use Rattle.space_engine.specs.Views.{View, with_swept, with_judged}
+use Rattle.space_engine.proofs.CompactionCompletions.{moves_completed, fixes_completed, moving_spelled}
 use Rattle.space_engine.proofs.CollectionVerdicts.{VerdictOf, collection_verdict}
 use Rattle.space_engine.proofs.Ending.{EndsTo, ends_to, ending_spelled, telling_spelled}
 use Rattle.space_engine.proofs.OutputLists.{spelled_both}
@@ -98,7 +98,7 @@ module _ (v : View) (s : State) (h : Holds v s) (rests : IsAtRest v.heap) (idle 
   no_scans : v.heap.phase ≢ Marking → AreCompletionScans s scans
   no_scans other = record {
     marking = λ marking. absurd (other (h.represents.heap.progress.at ∙ marking));
-    others = λ rests. (c.others other).no_scans;
+    others = λ rests resting. (c.others other).no_scans;
   }
 
   -- where nothing is under way no page waits, so nothing was done
@@ -136,7 +136,7 @@ module _ (v : View) (s : State) (h : Holds v s) (rests : IsAtRest v.heap) (idle 
         freed = swept.freed;
         sweeps = swept.sweeps;
       }))
-      (record { marking = λ e. (events, ended.state, ended.ends); others = λ other. absurd (other at) })
+      (record { marking = λ e. (events, ended.state, ended.ends); others = λ other resting. absurd (other at) })
       (subst (λ (w : View). Holds w swept.state) (sym (completed_marking v both.judged idle g marking both.sweeps)) swept.holds)
 
   at_rest_to : CompletesTo (completed_view v idle g) s scans events
@@ -155,12 +155,13 @@ module _ (v : View) (s : State) (h : Holds v s) (rests : IsAtRest v.heap) (idle 
       (phase_at_rest v.heap.phase rests.0 rests.1)
 
 -- what was under way was completed
-module _ (v : View) (s : State) (h : Holds v s) (rests : IsAtRest v.heap) (idle : View) (scans : ℕ) (events : List Event) (c : IsCompletion v idle scans events) where
-  at_rest : CompletesAtRest v idle scans events
-  at_rest = c.rests rests
+module _ (v : View) (s : State) (h : Holds v s) (idle : View) (scans : ℕ) (events : List Event) (c : IsCompletion v idle scans events) where
+  in_phase : (phase : Phase) → v.heap.phase ≡ phase → s.collector.phase ≡ phase
+  in_phase phase at = sym h.represents.heap.progress.at ∙ at
 
-  pub completes_to : CompletesTo idle s scans events
-  completes_to =
+  by_rest : IsAtRest v.heap → CompletesTo idle s scans events
+  by_rest rests =
+      let at_rest = c.rests rests in
       let to = at_rest_to v s h rests idle.heap idle.finals scans events at_rest.heap in
       record {
         state = to.state;
@@ -170,8 +171,55 @@ module _ (v : View) (s : State) (h : Holds v s) (rests : IsAtRest v.heap) (idle 
         at_idle = to.at_idle;
       }
 
+  -- in a compaction nothing is said of the reads
+  any_reads : (phase : Phase) → v.heap.phase ≡ phase → phase ≢ Marking → (IsResting s → ⊥) → AreCompletionScans s scans
+  any_reads phase at other compacts = record {
+    marking = λ marking. absurd (other (sym at ∙ h.represents.heap.progress.at ∙ marking));
+    others = λ rests resting. absurd (compacts resting);
+  }
+
+  by_moving : v.heap.phase ≡ Moving → CompletesTo idle s scans events
+  by_moving moving =
+      let at = in_phase Moving moving in
+      let to = moves_completed v s h at idle events (c.moving moving) in
+      record {
+        state = to.state;
+        completes = subst (λ phase. CompletesIn phase s events to.state) (sym at) to.completes;
+        scans_are = any_reads Moving moving (λ e. cc) (λ resting. resting.0 at);
+        holds = to.holds;
+        at_idle = sym to.holds.represents.heap.progress.at ∙ c.idle;
+      }
+
+  by_fixing : v.heap.phase ≡ Fixing → CompletesTo idle s scans events
+  by_fixing fixing =
+      let at = in_phase Fixing fixing in
+      let its = c.fixing fixing in
+      let to = fixes_completed v s h at idle its.1 in
+      record {
+        state = to.state;
+        completes = subst (λ phase. CompletesIn phase s events to.state) (sym at) (its.0, to.completes);
+        scans_are = any_reads Fixing fixing (λ e. cc) (λ resting. resting.1 at);
+        holds = to.holds;
+        at_idle = sym to.holds.represents.heap.progress.at ∙ c.idle;
+      }
+
+  pub completes_to : CompletesTo idle s scans events
+  completes_to = by v.heap.phase refl
+    where
+      by : (phase : Phase) → v.heap.phase ≡ phase → CompletesTo idle s scans events
+      by Moving at = by_moving at
+      by Fixing at = by_fixing at
+      by _ at = by_rest ((λ e. cc), (λ e. cc))
+
   pub completion_spelled : v.heap.counters.born < 2 ^ 62 → AreSpelled (map Told events)
-  completion_spelled = at_rest_spelled v s h rests idle.heap idle.finals scans events at_rest.heap
+  completion_spelled few = by v.heap.phase refl
+    where
+      by : (phase : Phase) → v.heap.phase ≡ phase → AreSpelled (map Told events)
+      by Moving at = moving_spelled v s h (in_phase Moving at) idle events (c.moving at) few
+      by Fixing at = subst (λ events. AreSpelled (map Told events)) (sym (c.fixing at).0) tt
+      by _ at =
+          let rests : IsAtRest v.heap = ((λ e. cc), (λ e. cc)) in
+          at_rest_spelled v s h rests idle.heap idle.finals scans events (c.rests rests).heap few
 
 -- the state after a collection, and what the space stands for then
 pub record CollectsTo (new : View) (s : State) (kind : Kind) (ended scans : ℕ) (events : List Event) : Type 0 where
@@ -180,10 +228,10 @@ pub record CollectsTo (new : View) (s : State) (kind : Kind) (ended scans : ℕ)
   pub ended_are : AreCompletionScans s ended
   pub holds : Holds new state
 
-module _ (v : View) (s : State) (h : Holds v s) (rests : IsAtRest v.heap) (new : View) (kind : Kind) (other : kind ≢ Major)
+module _ (v : View) (s : State) (h : Holds v s) (new : View) (kind : Kind) (other : kind ≢ Major)
     (ended scans : ℕ) (events : List Event) (c : IsCollected v new kind ended scans events) where
   completed : CompletesTo c.idle s ended c.completion
-  completed = completes_to v s h rests c.idle ended c.completion c.completes
+  completed = completes_to v s h c.idle ended c.completion c.completes
 
   abbrev idle : State
   idle = completed.state
@@ -233,6 +281,6 @@ module _ (v : View) (s : State) (h : Holds v s) (rests : IsAtRest v.heap) (new :
       let same = ap (λ (graph : List Item). length graph) (leaves_completed s idle c.completion completed.completes).graph in
       subst (λ events. AreSpelled (map Told events)) (sym c.events_are)
       (spelled_both c.completion c.told
-      (completion_spelled v s h rests c.idle ended c.completion c.completes few)
+      (completion_spelled v s h c.idle ended c.completion c.completes few)
       (telling_spelled c.idle.heap new.heap kind (root_words c.idle.roots) c.idle.stack scans c.told c.tells (mark_started idle)
       (Sound-mark_started idle completed.holds.sound) given.verdict (omega (arith, many, same, few))))

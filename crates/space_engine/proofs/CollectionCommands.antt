@@ -1,5 +1,5 @@
 -- The commands that collect, `minor` and `gc`, from what was done to the heap and what was written.
-use Rattle.std.proofs.Common.{◌≡◌, ◌≢◌, ℕ, List, [], ◌∷◌, sym, refl, subst, arith, Option}
+use Rattle.std.proofs.Common.{◌≢◌, ℕ, List, [], ◌∷◌, refl, arith, Option}
 use Rattle.space_model.specs.declared.command.Command.{Command}
 use Rattle.space_model.specs.declared.command.Command.TheVariants.{Minor, Gc}
 use Rattle.space_model.specs.declared.event.Event.{Event}
@@ -38,19 +38,19 @@ module _ (v new : View) (able : CanAnswer v.heap) (command : Command) (kind : Ki
       IsLawfulAnswer v new command events (Scanned scans)
   lawful ended scans events c = record {
     answers = λ s h.
-        let to = collects_to v s h able.collect.rests new kind other ended scans events c in
+        let to = collects_to v s h new kind other ended scans events c in
         record {
           state = to.state;
           represents = to.holds.represents;
           effects = collects_by s command kind by events scans to.state to.collects;
         };
-    spelled = λ s h. collection_spelled v s h able.collect.rests new kind other ended scans events c able.born;
+    spelled = λ s h. collection_spelled v s h new kind other ended scans events c able.born;
   }
 
-  pub collection_answered : (scans gone : ℕ) (before after : Option (List ℕ)) (ticks ticked : ℕ) →
-      AreTold (IsTickedCollection v new kind scans ticks ticked) gone before after →
-      IsAnswered v new command (Scanned scans) gone before after ticks ticked
-  collection_answered scans gone before after ticks ticked told =
+  pub collection_answered : (scans gone moves : ℕ) (before after : Option (List ℕ)) (ticks ticked : ℕ) →
+      AreTold (IsTickedCollection v new kind scans ticks ticked) gone moves before after →
+      IsAnswered v new command (Scanned scans) gone moves before after ticks ticked
+  collection_answered scans gone moves before after ticks ticked told =
       let c = told.are.collects in
       record {
         events = told.events;
@@ -59,7 +59,7 @@ module _ (v new : View) (able : CanAnswer v.heap) (command : Command) (kind : Ki
         written = told.written;
         ticks_are = λ s h. ticked_by s command kind by told.events scans ticks ticked (record {
           ended = told.are.ended;
-          ended_are = (collects_to v s h able.collect.rests new kind other told.are.ended scans told.events c).ended_are;
+          ended_are = (collects_to v s h new kind other told.are.ended scans told.events c).ended_are;
           ticked = told.are.rose;
         });
       }

@@ -9,7 +9,7 @@ use Rattle.space_io.specs.Sinks.{AppendsPrefix}
 use Rattle.space_model.specs.declared.event.Event.{Event}
 use Rattle.space_model.specs.declared.event.Kind.{Kind}
 use Rattle.space_model.specs.declared.event.Kind.TheVariants.{Major, Full}
-use Rattle.space_model.specs.declared.phase.Phase.TheVariants.{Idle, Marking, Sweeping}
+use Rattle.space_model.specs.declared.phase.Phase.TheVariants.{Idle, Marking, Sweeping, Moving, Fixing}
 use Rattle.space_model.specs.Outputs.{Told}
 use Rattle.space_model.specs.Texts.{text_of}
 use Rattle.space_model.specs.Verdicts.{verdict_events}
@@ -23,27 +23,27 @@ use Rattle.space_collector.specs.PagesSwept.{SweepsAll}
 use Rattle.space_collector.proofs.HeapVerdictLaws.{phase-verdict}
 use Rattle.space_collector.proofs.ToldLines.{text_of-append, prefix_after, prefix_longer}
 use Rattle.space_engine.specs.Counting.{no_counts}
-use Rattle.space_engine.specs.HeapCollections.{IsTelling, IsHeapCompletion, IsCompletion, IsCollected, IsTickedCollection, IsEmptied, IsTickedExit, AreTold, AreCut}
+use Rattle.space_engine.specs.HeapCollections.{IsTelling, IsHeapCompletion, CompletesMoves, CompletesFixes, IsCompletion, IsTickedCompletion, IsCollected, IsTickedCollection, IsEmptied, IsTickedExit, AreTold, AreCut}
 use Rattle.space_engine.specs.Turns.{IsAtRest}
 use Rattle.space_engine.specs.Views.{View, with_completed, with_judged, with_swept, without_starts}
 use Rattle.space_engine.proofs.Collecting.{phase_at_rest}
 use Rattle.space_engine.proofs.OutputLists.{counted_names, counted_both}
 
 -- what is so of events is so of those that were written
-told_weaker : (P Q : List Event → Type 0) (gone : ℕ) (before after : Option (List ℕ)) → ((events : List Event) → P events → Q events) →
-    AreTold P gone before after → AreTold Q gone before after
-told_weaker P Q gone before after so t = record { events = t.events; are = so t.events t.are; counted = t.counted; written = t.written }
+pub told_weaker : (P Q : List Event → Type 0) (gone moves : ℕ) (before after : Option (List ℕ)) → ((events : List Event) → P events → Q events) →
+    AreTold P gone moves before after → AreTold Q gone moves before after
+told_weaker P Q gone moves before after so t = record { events = t.events; are = so t.events t.are; counted = t.counted; written = t.written }
 
 -- and of those that were cut off
-cut_weaker : (P Q : List Event → Type 0) (before after : Option (List ℕ)) → ((events : List Event) → P events → Q events) →
+pub cut_weaker : (P Q : List Event → Type 0) (before after : Option (List ℕ)) → ((events : List Event) → P events → Q events) →
     AreCut P before after → AreCut Q before after
 cut_weaker P Q before after so t = record { events = t.events; are = so t.events t.are; prefix = t.prefix }
 
 -- the lines of a verdict tell of all that it took
 pub telling_told : (old new : HeapView) (kind : Kind) (roots stack : List ℕ) (scans gone : ℕ) (before after : Option (List ℕ)) →
-    IsHeapVerdict old new kind roots stack scans → scans < 2 ^ 27 → gone ≡ length (gone_names new) →
+    IsHeapVerdict old new kind roots stack scans → scans < 2 ^ 24 → gone ≡ length (gone_names new) →
     Appends before after (text_of (map Told (verdict_events kind (gone_names new)))) →
-    AreTold (IsTelling old new kind roots stack scans) gone before after
+    AreTold (IsTelling old new kind roots stack scans) gone 0 before after
 telling_told old new kind roots stack scans gone before after verdict few many written = record {
   events = verdict_events kind (gone_names new);
   are = record { verdict = verdict; few = few; events_are = refl };
@@ -73,16 +73,16 @@ module _ (old judged : HeapView) (f : FinalLists) (idle : HeapView) (g : FinalLi
     others = λ other. absurd (other marking);
   }
 
-  pub ended_done : IfOk result (λ ended. AreTold (Tells (scans ended)) (gone ended) before after) →
-      IfOk result (λ ended. AreTold (Completes (scans ended)) (gone ended) before after)
-  ended_done told = IfOk-weaker result _ _ (λ ended t. told_weaker (Tells (scans ended)) (Completes (scans ended)) (gone ended) before after (ends (scans ended)) t) told
+  pub ended_done : IfOk result (λ ended. AreTold (Tells (scans ended)) (gone ended) 0 before after) →
+      IfOk result (λ ended. AreTold (Completes (scans ended)) (gone ended) 0 before after)
+  ended_done told = IfOk-weaker result _ _ (λ ended t. told_weaker (Tells (scans ended)) (Completes (scans ended)) (gone ended) 0 before after (ends (scans ended)) t) told
 
   pub ended_fault : OnErr result (AreCut (λ events. (scans : ℕ) × Tells scans events) before after) →
       OnErr result (AreCut (λ events. (scans : ℕ) × Completes scans events) before after)
   ended_fault cut = on_err_weaker result (λ t. cut_weaker _ _ before after (λ events (scans, tells). (scans, ends scans events tells)) t) cut
 
   -- nothing is under way then
-  pub ended_idle : IfOk result (λ ended. AreTold (Tells (scans ended)) (gone ended) before after) →
+  pub ended_idle : IfOk result (λ ended. AreTold (Tells (scans ended)) (gone ended) 0 before after) →
       OnErr result (AreCut (λ events. (scans : ℕ) × Tells scans events) before after) →
       (judged.phase ≡ Sweeping → idle.phase ≡ Idle) → (judged.phase ≢ Sweeping → idle ≡ judged) → idle.phase ≡ Idle
   ended_idle told cut swept same = idle_by result told cut
@@ -93,7 +93,7 @@ module _ (old judged : HeapView) (f : FinalLists) (idle : HeapView) (g : FinalLi
           swept
           (phase-verdict old judged Major roots stack scans t.verdict)
 
-      idle_by : (result : Result T E) → IfOk result (λ ended. AreTold (Tells (scans ended)) (gone ended) before after) →
+      idle_by : (result : Result T E) → IfOk result (λ ended. AreTold (Tells (scans ended)) (gone ended) 0 before after) →
           OnErr result (AreCut (λ events. (scans : ℕ) × Tells scans events) before after) → idle.phase ≡ Idle
       idle_by (Ok ended) told cut = by_verdict (scans ended) told.events told.are
       idle_by (Err fault) told cut = by_verdict cut.are.0 cut.events cut.are.1
@@ -101,7 +101,7 @@ module _ (old judged : HeapView) (f : FinalLists) (idle : HeapView) (g : FinalLi
 -- outside a marking every page was swept, and nothing else was done
 module _ (old : HeapView) (f : FinalLists) (idle : HeapView) (g : FinalLists) (roots stack : List ℕ) (other : old.phase ≢ Marking)
     (sound : IsSoundHeap old) (sweeps : SweepsAll old f idle g) where
-  pub swept_done : (before : Option (List ℕ)) → AreTold (IsHeapCompletion old f idle g roots stack 0) 0 before before
+  pub swept_done : (before : Option (List ℕ)) → AreTold (IsHeapCompletion old f idle g roots stack 0) 0 0 before before
   swept_done before = record {
     events = [];
     are = record {
@@ -118,26 +118,41 @@ module _ (old : HeapView) (f : FinalLists) (idle : HeapView) (g : FinalLists) (r
       (⊎_elim (λ marking. absurd (other marking)) swept)
       (phase_at_rest old.phase rests.0 rests.1)
 
--- what was completed outside a compaction is a completion, with its lines written whole or in part
-module _ (old new : View) (rest : new ≡ with_completed old new.heap new.finals) (idle : new.heap.phase ≡ Idle) {T E : Type 0} (result : Result T E)
-    (scans gone : T → ℕ) (before after : Option (List ℕ)) where
-  abbrev AtRest : ℕ → List Event → Type 0
-  AtRest scans events = IsHeapCompletion old.heap old.finals new.heap new.finals (root_words old.roots) old.stack scans events
+-- what was completed outside a compaction is a completion
+pub rests_complete : (old new : View) (scans : ℕ) (events : List Event) → IsAtRest old.heap → new ≡ with_completed old new.heap new.finals →
+    new.heap.phase ≡ Idle → IsHeapCompletion old.heap old.finals new.heap new.finals (root_words old.roots) old.stack scans events →
+    IsCompletion old new scans events
+rests_complete old new scans events rests rest idle c = record {
+  rests = λ rests. record { heap = c; rest = rest };
+  moving = λ moving. absurd (rests.0 moving);
+  fixing = λ fixing. absurd (rests.1 fixing);
+  idle = idle;
+}
 
-  completes : (scans : ℕ) (events : List Event) → AtRest scans events → IsCompletion old new scans events
-  completes scans events c = record { rests = λ rests. record { heap = c; rest = rest }; idle = idle }
+-- so is what was completed in a compaction
+pub moves_complete : (old new : View) (scans : ℕ) (events : List Event) → old.heap.phase ≡ Moving → new.heap.phase ≡ Idle →
+    CompletesMoves old new events → IsCompletion old new scans events
+moves_complete old new scans events moving idle c = record {
+  rests = λ rests. absurd (rests.0 moving);
+  moving = λ is. c;
+  fixing = λ fixing. (let at = moving in cc);
+  idle = idle;
+}
 
-  pub completion_done : IfOk result (λ ended. AreTold (AtRest (scans ended)) (gone ended) before after) →
-      IfOk result (λ ended. AreTold (IsCompletion old new (scans ended)) (gone ended) before after)
-  completion_done told = IfOk-weaker result _ _
-      (λ ended t. told_weaker (AtRest (scans ended)) (IsCompletion old new (scans ended)) (gone ended) before after (completes (scans ended)) t) told
+pub fixes_complete : (old new : View) (scans : ℕ) → old.heap.phase ≡ Fixing → new.heap.phase ≡ Idle → CompletesFixes old new →
+    IsCompletion old new scans []
+fixes_complete old new scans fixing idle c = record {
+  rests = λ rests. absurd (rests.1 fixing);
+  moving = λ moving. (let at = fixing in cc);
+  fixing = λ is. (refl, c);
+  idle = idle;
+}
 
-module _ (old new : View) (rest : new ≡ with_completed old new.heap new.finals) (idle : new.heap.phase ≡ Idle) {T E : Type 0} (result : Result T E)
-    (before after : Option (List ℕ)) where
-  pub completion_fault : OnErr result (AreCut (λ events. (scans : ℕ) × IsHeapCompletion old.heap old.finals new.heap new.finals (root_words old.roots) old.stack scans events) before after) →
-      OnErr result (AreCut (λ events. (scans : ℕ) × IsCompletion old new scans events) before after)
-  completion_fault cut = on_err_weaker result
-      (λ t. cut_weaker _ _ before after (λ events (scans, c). (scans, record { rests = λ rests. record { heap = c; rest = rest }; idle = idle })) t) cut
+-- without the ledger's count
+pub ticked_completes : (old new : View) (ticks ticked gone moves : ℕ) (before after : Option (List ℕ))
+    (t : AreTold (IsTickedCompletion old new ticks ticked) gone moves before after) → AreTold (IsCompletion old new t.are.scans) gone moves before after
+ticked_completes old new ticks ticked gone moves before after t =
+    record { events = t.events; are = t.are.completes; counted = t.counted; written = t.written }
 
 -- what is purged by the heap after a verdict is of the space that was there before it
 pub judged_now : (before mid new : View) (heap : HeapView) → before ≡ mid → new ≡ with_judged before heap → new ≡ with_judged mid new.heap
@@ -164,20 +179,20 @@ module _ (kind : Kind) (judged : HeapView) (P Q : List Event → Type 0)
 
   module _ (before middle after : Option (List ℕ)) where
     -- the lines of both were written
-    both_told : (first second : ℕ) → AreTold P first before middle → second ≡ length (gone_names judged) →
-        Appends middle after (text_of (map Told lines)) → AreTold Q (first + second) before after
-    both_told first second c many written = record {
+    both_told : (first moves second : ℕ) → AreTold P first moves before middle → second ≡ length (gone_names judged) →
+        Appends middle after (text_of (map Told lines)) → AreTold Q (first + second) moves before after
+    both_told first moves second c many written = record {
       events = c.events ++ lines;
       are = joins c.events c.are;
-      counted = counted_both c.events lines first second c.counted
+      counted = counted_both c.events lines first moves second c.counted
           (counted_names kind (gone_names judged) (length (gone_names judged)) ∙ ap (λ n. record no_counts { gone = n }) (sym many));
       written = subst (Appends before after) (sym (both_texts c.events))
           (Appends-trans before middle after (text_of (map Told c.events)) (text_of (map Told lines)) c.written written);
     }
 
     -- those of the verdict were cut off
-    second_cut : (first : ℕ) → AreTold P first before middle → AppendsPrefix middle after (text_of (map Told lines)) → AreCut Q before after
-    second_cut first c prefix = record {
+    second_cut : (first moves : ℕ) → AreTold P first moves before middle → AppendsPrefix middle after (text_of (map Told lines)) → AreCut Q before after
+    second_cut first moves c prefix = record {
       events = c.events ++ lines;
       are = joins c.events c.are;
       prefix = subst (AppendsPrefix before after) (sym (both_texts c.events))
@@ -195,7 +210,7 @@ module _ (kind : Kind) (judged : HeapView) (P Q : List Event → Type 0)
 
 -- a collection: a completion, which left the space `idle`, and then a verdict of the kind, which left the last space
 module _ (old idle new : View) (kind : Kind) (scans : ℕ) (verdict : IsHeapVerdict idle.heap new.heap kind (root_words idle.roots) idle.stack scans)
-    (few : scans < 2 ^ 27) (judged : new ≡ with_judged idle new.heap) where
+    (few : scans < 2 ^ 24) (judged : new ≡ with_judged idle new.heap) where
   abbrev Completed : ℕ → List Event → Type 0
   Completed ended events = IsCompletion old idle ended events
 
@@ -217,18 +232,18 @@ module _ (old idle new : View) (kind : Kind) (scans : ℕ) (verdict : IsHeapVerd
   }
 
   module _ (before middle after : Option (List ℕ)) where
-    pub collected_done : (ended first second ticks ticked : ℕ) → AreTold (Completed ended) first before middle →
+    pub collected_done : (ended first moves second ticks ticked : ℕ) → AreTold (Completed ended) first moves before middle →
         second ≡ length (gone_names new.heap) → Appends middle after (text_of (map Told told)) → ticked ≡ ticks + ended + scans →
-        AreTold (IsTickedCollection old new kind scans ticks ticked) (first + second) before after
-    collected_done ended first second ticks ticked c many written rose =
+        AreTold (IsTickedCollection old new kind scans ticks ticked) (first + second) moves before after
+    collected_done ended first moves second ticks ticked c many written rose =
         both_told kind new.heap (Completed ended) (IsTickedCollection old new kind scans ticks ticked)
         (λ completion c. record { ended = ended; collects = collection ended completion c; rose = rose })
-        before middle after first second c many written
+        before middle after first moves second c many written
 
-    pub verdict_cut : (ended first : ℕ) → AreTold (Completed ended) first before middle → AppendsPrefix middle after (text_of (map Told told)) →
+    pub verdict_cut : (ended first moves : ℕ) → AreTold (Completed ended) first moves before middle → AppendsPrefix middle after (text_of (map Told told)) →
         AreCut Collected before after
-    verdict_cut ended first c prefix =
-        second_cut kind new.heap (Completed ended) Collected (λ completion c. (ended, scans, collection ended completion c)) before middle after first c prefix
+    verdict_cut ended first moves c prefix =
+        second_cut kind new.heap (Completed ended) Collected (λ completion c. (ended, scans, collection ended completion c)) before middle after first moves c prefix
 
   pub completion_cut : (before after : Option (List ℕ)) → AreCut (λ events. (ended : ℕ) × Completed ended events) before after →
       AreCut Collected before after
@@ -237,7 +252,7 @@ module _ (old idle new : View) (kind : Kind) (scans : ℕ) (verdict : IsHeapVerd
 
 -- `exit` up to the finalizers that run: a completion, which left the space `idle`, a whole verdict without roots and stack words, which left the heap
 -- `judged`, and sweeps of all pages
-module _ (old idle : View) (judged : HeapView) (new : View) (scans : ℕ) (verdict : IsHeapVerdict idle.heap judged Full [] [] scans) (few : scans < 2 ^ 27)
+module _ (old idle : View) (judged : HeapView) (new : View) (scans : ℕ) (verdict : IsHeapVerdict idle.heap judged Full [] [] scans) (few : scans < 2 ^ 24)
     (sweeps : SweepsAll judged idle.finals new.heap new.finals)
     (swept : new ≡ with_swept (with_judged (without_starts idle) judged) new.heap new.finals) where
   abbrev CompletedFirst : ℕ → List Event → Type 0
@@ -264,18 +279,18 @@ module _ (old idle : View) (judged : HeapView) (new : View) (scans : ℕ) (verdi
   }
 
   module _ (before middle after : Option (List ℕ)) where
-    pub exit_done : (ended first second ticks ticked : ℕ) → AreTold (CompletedFirst ended) first before middle →
+    pub exit_done : (ended first moves second ticks ticked : ℕ) → AreTold (CompletedFirst ended) first moves before middle →
         second ≡ length (gone_names judged) → Appends middle after (text_of (map Told told_last)) → ticked ≡ ticks + ended + scans →
-        AreTold (IsTickedExit old new ticks ticked) (first + second) before after
-    exit_done ended first second ticks ticked c many written rose =
+        AreTold (IsTickedExit old new ticks ticked) (first + second) moves before after
+    exit_done ended first moves second ticks ticked c many written rose =
         both_told Full judged (CompletedFirst ended) (IsTickedExit old new ticks ticked)
         (λ completion c. record { ended = ended; exits = exits ended completion c; rose = rose })
-        before middle after first second c many written
+        before middle after first moves second c many written
 
-    pub exit_verdict_cut : (ended first : ℕ) → AreTold (CompletedFirst ended) first before middle →
+    pub exit_verdict_cut : (ended first moves : ℕ) → AreTold (CompletedFirst ended) first moves before middle →
         AppendsPrefix middle after (text_of (map Told told_last)) → AreCut Exited before after
-    exit_verdict_cut ended first c prefix =
-        second_cut Full judged (CompletedFirst ended) Exited (λ completion c. (ended, exits ended completion c)) before middle after first c prefix
+    exit_verdict_cut ended first moves c prefix =
+        second_cut Full judged (CompletedFirst ended) Exited (λ completion c. (ended, exits ended completion c)) before middle after first moves c prefix
 
   pub exit_completion_cut : (before after : Option (List ℕ)) → AreCut (λ events. (ended : ℕ) × CompletedFirst ended events) before after →
       AreCut Exited before after

@@ -39,19 +39,21 @@ none_before : (n : ℕ) → 0 + n ≡ n
 none_before n = omega arith
 
 -- after the lines of what is gone, which tell how many that is
-counted_all : (events : List Event) (pairs : List (ℕ × List ℕ)) (gone : ℕ) → counts_of (map Told events) ≡ record no_counts { gone = gone } →
-    counts_of (map Told (events ++ ran_events pairs)) ≡ record no_counts { gone = gone; finals = length pairs }
-counted_all events pairs gone counted =
+counted_all : (events : List Event) (pairs : List (ℕ × List ℕ)) (gone moves : ℕ) →
+    counts_of (map Told events) ≡ record no_counts { gone = gone; moves = moves } →
+    counts_of (map Told (events ++ ran_events pairs)) ≡ record no_counts { gone = gone; moves = moves; finals = length pairs }
+counted_all events pairs gone moves counted =
     ap counts_of (map-append Told events (ran_events pairs))
     ∙ counts_of-append (map Told events) (map Told (ran_events pairs))
     ∙ ap (λ c. sum_of_counts c (counts_of (map Told (ran_events pairs)))) counted
-    ∙ ap (sum_of_counts (record no_counts { gone = gone })) (counted_ran pairs)
-    ∙ (λ i. record no_counts { gone = none_more gone i; finals = none_before (length pairs) i })
+    ∙ ap (sum_of_counts (record no_counts { gone = gone; moves = moves })) (counted_ran pairs)
+    ∙ (λ i. record no_counts { gone = none_more gone i; moves = none_more moves i; finals = none_before (length pairs) i })
 
 -- and the reply counts for nothing
-counted_reply : (gone finals : ℕ) →
-    sum_of_counts (record no_counts { gone = gone; finals = finals }) no_counts ≡ record no_counts { gone = gone; finals = finals }
-counted_reply gone finals = λ i. record no_counts { gone = none_more gone i; finals = none_more finals i }
+counted_reply : (gone moves finals : ℕ) →
+    sum_of_counts (record no_counts { gone = gone; moves = moves; finals = finals }) no_counts
+    ≡ record no_counts { gone = gone; moves = moves; finals = finals }
+counted_reply gone moves finals = λ i. record no_counts { gone = none_more gone i; moves = none_more moves i; finals = none_more finals i }
 
 -- no more wait than there are
 pub few_wait : (inner lists : FinalLists) (waiting : ℕ) → inner ≡ lists → waiting ≡ length inner.finals + length inner.queue →
@@ -73,13 +75,13 @@ module _ (v mid new : View) (ran : new ≡ with_queue mid [])
   lawful : (ended : ℕ) (events : List Event) → Exits ended events → IsLawfulAnswer v new Exit (events ++ lines) reply
   lawful ended events e = record {
     answers = λ s h.
-        let to = exits_to v s h able.collect.rests mid ended events e in
+        let to = exits_to v s h mid ended events e in
         record {
           state = to.state;
           represents = subst (λ (w : View). Represents w to.state) (sym ran) to.represents;
           effects = record { reply = reply; answer_is = refl; is = to.exits };
         };
-    spelled = λ s h. spelled_both events lines (exit_spelled v s h able.collect.rests mid ended events e able.born) spelled;
+    spelled = λ s h. spelled_both events lines (exit_spelled v s h mid ended events e able.born) spelled;
   }
 
   -- the lines of what is gone, and then those of the finalizers
@@ -105,8 +107,8 @@ module _ (v mid new : View) (ran : new ≡ with_queue mid [])
           (prefix_longer before after (text_of (map Told cut.events)) (text_of (map Told lines)) cut.prefix)));
     }
 
-    module _ (gone ticks ticked : ℕ) (before middle : Option (List ℕ))
-        (t : AreTold (IsTickedExit v mid ticks ticked) gone before middle) where
+    module _ (gone moves ticks ticked : ℕ) (before middle : Option (List ℕ))
+        (t : AreTold (IsTickedExit v mid ticks ticked) gone moves before middle) where
       t_lawful : AreLawful v new Exit (outputs t.events)
       t_lawful = all_lawful t.are.ended t.events t.are.exits
 
@@ -138,15 +140,15 @@ module _ (v mid new : View) (ran : new ≡ with_queue mid [])
 
         -- or all of it was written
         pub exit_written : Appends late after (line_of_pieces (reply_pieces reply)) →
-            IsWritten v new Exit (record no_counts { gone = gone; finals = length mid.finals.queue }) before after ticks ticked
+            IsWritten v new Exit (record no_counts { gone = gone; moves = moves; finals = length mid.finals.queue }) before after ticks ticked
         exit_written written = record {
           outputs = outputs t.events;
           lawful = t_lawful;
           done = λ s h.
-              let to = exits_to v s h able.collect.rests mid t.are.ended t.events t.are.exits in
+              let to = exits_to v s h mid t.are.ended t.events t.are.exits in
               record {
-                counted = sym (counted_reply gone (length mid.finals.queue))
-                    ∙ outputs_counts (t.events ++ lines) reply _ (counted_all t.events mid.finals.queue gone t.counted);
+                counted = sym (counted_reply gone moves (length mid.finals.queue))
+                    ∙ outputs_counts (t.events ++ lines) reply _ (counted_all t.events mid.finals.queue gone moves t.counted);
                 written = subst (Appends before after) (sym (outputs_text (t.events ++ lines) reply))
                     (Appends-trans before late after (text_of (map Told (t.events ++ lines))) (line_of_pieces (reply_pieces reply)) all_told written);
                 ticked = record {

@@ -13,16 +13,12 @@ use Rattle.space_model.specs.State.{State}
 use Rattle.space_model.specs.Texts.{AreSpelled}
 use Rattle.space_model.proofs.CollectionsKept.{Sound-mark_started}
 use Rattle.space_model.proofs.WholeLaws.{leaves_completed, collected_state, collects_after, Sound-collection}
-use Rattle.space_finals.specs.FinalLists.{FinalLists}
-use Rattle.space_heap.specs.HeapView.{HeapView}
 use Rattle.space_heap.specs.Sweeping.{HasNoGone}
-use Rattle.space_roots.specs.WordRoots.{root_words}
 use Rattle.space_collector.specs.GoneNames.{gone_names}
 use Rattle.space_engine.specs.HeapCollections.{IsEmptied}
 use Rattle.space_engine.specs.Stands.{Represents, Holds}
 use Rattle.space_engine.specs.Ticks.{AreCompletionScans}
-use Rattle.space_engine.specs.Turns.{IsAtRest}
-use Rattle.space_engine.specs.Views.{View, with_finals, with_judged, with_queue, with_swept, without_starts}
+use Rattle.space_engine.specs.Views.{View, with_judged, with_queue, with_swept, without_starts}
 use Rattle.space_engine.proofs.CollectionVerdicts.{VerdictOf, collection_verdict}
 use Rattle.space_engine.proofs.Collecting.{CompletesTo, completes_to, completion_spelled, SweepsAllTo, swept_all_hold}
 use Rattle.space_engine.proofs.Ending.{telling_spelled}
@@ -38,13 +34,13 @@ pub record ExitsTo (new : View) (s : State) (ended scans : ℕ) (events : List E
   pub no_scans : scans ≡ 0
   pub represents : Represents (with_queue new []) state
 
-module _ (v : View) (s : State) (h : Holds v s) (rests : IsAtRest v.heap) (new : View) (ended : ℕ) (events : List Event)
+module _ (v : View) (s : State) (h : Holds v s) (new : View) (ended : ℕ) (events : List Event)
     (e : IsEmptied v new ended events) where
   abbrev queue : List (ℕ × List ℕ)
   queue = new.finals.queue
 
   completed : CompletesTo e.idle s ended e.completion
-  completed = completes_to v s h rests e.idle ended e.completion e.completes
+  completed = completes_to v s h e.idle ended e.completion e.completes
 
   -- the space and the state without roots and stack words
   abbrev bare : View
@@ -140,6 +136,6 @@ module _ (v : View) (s : State) (h : Holds v s) (rests : IsAtRest v.heap) (new :
       let same = ap (λ (graph : List Item). length graph) (leaves_completed s completed.state e.completion completed.completes).graph in
       subst (λ events. AreSpelled (map Told events)) (sym e.events_are)
       (spelled_both e.completion e.told
-      (completion_spelled v s h rests e.idle ended e.completion e.completes few)
+      (completion_spelled v s h e.idle ended e.completion e.completes few)
       (telling_spelled e.idle.heap e.judged Full [] [] e.scans e.told e.tells (mark_started left)
       (Sound-mark_started left bare_holds.sound) given.verdict (omega (arith, many, same, few))))

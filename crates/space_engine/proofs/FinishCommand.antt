@@ -31,8 +31,8 @@ module _ (v new : View) (rest : new ≡ with_judged v new.heap) (able : CanAnswe
     spelled = λ s h. ending_spelled v s h marking new.heap scans events t able.born;
   }
 
-  pub finish_answered : (scans gone : ℕ) (before after : Option (List ℕ)) (ticks ticked : ℕ) → AreTold (Tells scans) gone before after →
-      ticked ≡ ticks + scans → IsAnswered v new Finish (Scanned scans) gone before after ticks ticked
+  pub finish_answered : (scans gone : ℕ) (before after : Option (List ℕ)) (ticks ticked : ℕ) → AreTold (Tells scans) gone 0 before after →
+      ticked ≡ ticks + scans → IsAnswered v new Finish (Scanned scans) gone 0 before after ticks ticked
   finish_answered scans gone before after ticks ticked told rose = record {
     events = told.events;
     lawful = lawful scans told.events told.are;
@@ -53,7 +53,7 @@ module _ (v new : View) (rest : new ≡ with_judged v new.heap) (able : CanAnswe
 
 -- where no marking is under way there is none to end
 pub finish_refused : (v : View) → v.heap.phase ≢ Marking → (known : Option (List ℕ)) (ticks : ℕ) →
-    IsAnswered v v Finish (Refused NotMarking) 0 known known ticks ticks
+    IsAnswered v v Finish (Refused NotMarking) 0 0 known known ticks ticks
 finish_refused v other known ticks = answered_silently v v Finish (Refused NotMarking) known ticks ticks
     (λ s h. record {
       state = s;

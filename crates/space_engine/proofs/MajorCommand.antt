@@ -1,5 +1,5 @@
 -- The command that begins a major marking, from what was done to the heap and what was written.
-use Rattle.std.proofs.Common.{◌≡◌, ◌+◌, ◌&&◌, ℕ, List, sym, ap, ◌∙◌, refl, subst, nat_eq, arith, Option}
+use Rattle.std.proofs.Common.{◌≡◌, ◌&&◌, ℕ, List, sym, ap, ◌∙◌, refl, subst, nat_eq, arith, Option}
 use Rattle.std.specs.Set.{is_member}
 use Rattle.space_model.specs.declared.command.Command.TheVariants.{Major}
 use Rattle.space_model.specs.declared.event.Event.{Event}
@@ -23,7 +23,7 @@ use Rattle.space_major.specs.Incremental.{started}
 use Rattle.space_major.proofs.Starts.{begun, marks_started}
 use Rattle.space_collector.specs.Quiescent.{IsQuiescent, most_slots}
 use Rattle.space_engine.specs.Answered.{IsLawfulAnswer, IsAnswered, IsCutOff}
-use Rattle.space_engine.specs.HeapCollections.{AreTold, AreCut, HasJudged, IsCompletion}
+use Rattle.space_engine.specs.HeapCollections.{AreTold, AreCut, HasJudged, IsCompletion, IsTickedCompletion}
 use Rattle.space_engine.specs.Stands.{Represents}
 use Rattle.space_engine.specs.Turns.{CanAnswer, IsOneTurn}
 use Rattle.space_engine.specs.Views.{View, with_heap}
@@ -69,23 +69,28 @@ module _ (idle : HeapView) (roots stack : List ℕ) (nothing : idle.phase ≡ Id
   }
 
   -- after what was under way was completed it is one turn
-  turn_begun : (v : HeapView) → HasJudged 0 1 most_slots v idle → IsOneTurn v marking
+  turn_begun : (v : HeapView) → HasJudged 0 1 most_slots 1 v idle → IsOneTurn v marking
   turn_begun v judged =
       let born = judged.born in
       let minors = judged.minor_verdicts in
       let others = judged.other_verdicts in
       let freed = judged.freed in
+      let compactions = judged.compactions in
+      let moves = judged.moves in
       let same_born = ap (λ (c : Counters). c.born) counters_stay in
       let same_minors = ap (λ (c : Counters). c.minor_verdicts) counters_stay in
       let same_others = ap (λ (c : Counters). c.other_verdicts) counters_stay in
       let same_freed = ap (λ (c : Counters). c.freed) counters_stay in
+      let same_compactions = ap (λ (c : Counters). c.compactions) counters_stay in
+      let same_moves = ap (λ (c : Counters). c.moves) counters_stay in
       record {
         born = omega (arith, born, same_born);
         minor_verdicts = omega (arith, minors, same_minors);
         other_verdicts = omega (arith, others, same_others);
         freed = omega (arith, freed, same_freed);
-        quiescent = λ was rests. quiescent_begun judged.quiescent;
-        rests = λ was. ((λ e. let at = visits.phase in cc), (λ e. let at = visits.phase in cc));
+        compactions = omega (arith, compactions, same_compactions);
+        moves = omega (arith, moves, same_moves);
+        quiescent = λ was. quiescent_begun judged.quiescent;
       }
 
 -- what was under way was completed, and then a marking began; the parts of the space between are those after the completion
@@ -100,7 +105,7 @@ module _ (v mid parts : View) (same : parts ≡ mid) (nothing : mid.heap.phase �
   lawful : (scans : ℕ) (events : List Event) → IsCompletion v mid scans events → IsLawfulAnswer v (with_heap parts after) Major events Done
   lawful scans events c = record {
     answers = λ s h.
-        let to : CompletesTo mid s scans events = completes_to v s h able.collect.rests mid scans events c in
+        let to : CompletesTo mid s scans events = completes_to v s h mid scans events c in
         let marking = marking_holds mid to.state to.holds nothing in
         record {
           state = marking_begun (mark_started to.state);
@@ -111,19 +116,21 @@ module _ (v mid parts : View) (same : parts ≡ mid) (nothing : mid.heap.phase �
             is = record { idle = to.state; completes = to.completes; started = mark_started to.state; starts = refl; begins = refl };
           };
         };
-    spelled = λ s h. completion_spelled v s h able.collect.rests mid scans events c able.born;
+    spelled = λ s h. completion_spelled v s h mid scans events c able.born;
   }
 
-  pub major_answered : (scans gone : ℕ) (before written : Option (List ℕ)) (ticks ticked : ℕ) → AreTold (IsCompletion v mid scans) gone before written →
-      ticked ≡ ticks + scans → IsAnswered v (with_heap parts after) Major Done gone before written ticks ticked
-  major_answered scans gone before written ticks ticked told rose = record {
+  pub major_answered : (gone moves : ℕ) (before written : Option (List ℕ)) (ticks ticked : ℕ) →
+      AreTold (IsTickedCompletion v mid ticks ticked) gone moves before written →
+      IsAnswered v (with_heap parts after) Major Done gone moves before written ticks ticked
+  major_answered gone moves before written ticks ticked told = record {
     events = told.events;
-    lawful = lawful scans told.events told.are;
+    lawful = lawful told.are.scans told.events told.are.completes;
     counted = told.counted;
     written = told.written;
     ticks_are = λ s h.
-        let to : CompletesTo mid s scans told.events = completes_to v s h able.collect.rests mid scans told.events told.are in
-        record { ended = scans; ended_are = to.scans_are; ticked = omega (arith, rose) };
+        let to : CompletesTo mid s told.are.scans told.events = completes_to v s h mid told.are.scans told.events told.are.completes in
+        let rose = told.are.rose in
+        record { ended = told.are.scans; ended_are = to.scans_are; ticked = omega (arith, rose) };
   }
 
   pub major_cut_off : (before written : Option (List ℕ)) → AreCut (λ events. (scans : ℕ) × IsCompletion v mid scans events) before written →
@@ -136,5 +143,5 @@ module _ (v mid parts : View) (same : parts ≡ mid) (nothing : mid.heap.phase �
     prefix = cut.prefix;
   }
 
-  pub major_turn : HasJudged 0 1 most_slots v.heap mid.heap → IsOneTurn v.heap after
+  pub major_turn : HasJudged 0 1 most_slots 1 v.heap mid.heap → IsOneTurn v.heap after
   major_turn judged = subst (IsOneTurn v.heap) (sym begins) (turn_begun mid.heap (root_words mid.roots) mid.stack nothing v.heap judged)

@@ -157,7 +157,7 @@ mark_refused v s h rests count = record {
 pub turn_marked : (v z : HeapView) (k : ℕ) → v.phase ≡ Marking → GoesOn v z k → IsOneTurn v z
 turn_marked v z k at goes =
     let same : SameGraph v z = (goes v [] [] [] (marks_none v)).1.same in
-    turn_alike 3 v z (record {
+    turn_alike 3 2 v z (record {
       phase = same.phase;
       unswept = same.unswept;
       grey = λ rests. absurd (rests at);

@@ -13,7 +13,8 @@ use Rattle.space_model.specs.Pieces.{born, Born}
 use Rattle.space_model.specs.Places.{IsNewAt, HasNoSpare, IsFreshPage}
 use Rattle.space_model.specs.Sound.{Sound}
 use Rattle.space_model.specs.State.{State}
-use Rattle.space_model.proofs.Stages.{IsSweptInVain, IsNewPlace, IsAtLimit}
+use Rattle.space_model.proofs.Stages.{IsTriedInVain, IsNewPlace, IsAtLimit}
+use Rattle.space_model.specs.declared.event.Event.{Event}
 use Rattle.space_model.proofs.PageLaws.{pool_at-with_pool, page_of-slot_address}
 use Rattle.space_finals.specs.FinalLists.{FinalLists}
 use Rattle.space_heap.specs.Slots.{new_object}
@@ -33,6 +34,7 @@ use Rattle.space_engine.proofs.Addresses.{has_slot, known_pool}
 use Rattle.space_engine.proofs.FreshPages.{fresh_pages, first_of_page, fresh_page}
 use Rattle.space_engine.proofs.FreeAddresses.{free_agrees}
 use Rattle.space_engine.proofs.SweptInNeed.{SweepsUntilFreeTo, until_free_holds}
+use Rattle.space_engine.proofs.NeededCompletions.{IsTriedInNeed, tried_in_vain, free_in_need}
 use Rattle.space_engine.proofs.NewObjects.{IsPrepared, after_allocation}
 
 -- a page with a pool gets it again
@@ -58,13 +60,13 @@ same_pools pages page pool e k =
 abbrev pub IsPlaceFor : HeapView → State → ℕ → ℕ → Type 0
 IsPlaceFor heap s pool a = IsNewAt s pool a ⊎ (HasNoFree heap pool × (page : ℕ) × IsFreshPage s page × (a ≡ slot_address page pool 0))
 
--- the view has what the state has after pages were swept in need and then an object was allocated
-pub record IsMadeFrom (w : View) (s : State) (root : List ℕ) (fields : ℕ) (guard : Guard) (style : Style) (name a : ℕ) : Type 0 where
+-- the view has what the state has after a compaction was completed and pages were swept, each in need, and then an object was allocated
+pub record IsMadeFrom (w : View) (s : State) (events : List Event) (root : List ℕ) (fields : ℕ) (guard : Guard) (style : Style) (name a : ℕ) : Type 0 where
   pub ready : State
   pub state : State
   pub represents : Represents w state
   pub next : name ≡ length ready.graph + 1
-  pub place : IsNewPlace s (pool_for fields) ready a
+  pub place : IsNewPlace s (pool_for fields) events ready a
   pub made : Born ready root fields guard style a state
 
 -- where an object is allocated, and the heap there before
@@ -150,22 +152,55 @@ module _ (v w : View) (s : State) (held : Holds v s) (sound_heap : IsSoundHeap v
       (subst (λ heap. IsLeastFree heap its_pool a) g.becomes b.least) (b.becomes ∙ ap (λ heap. placed heap a (new_object name fields guard style)) g.becomes))
       b.room
 
--- the place in words of the state before the sweeps
-place_after : (v : View) (s : State) (z : HeapView) (g : FinalLists) (pool a : ℕ) (to : SweepsUntilFreeTo v s z g pool) → IsPlaceFor z to.state pool a →
-    IsNewPlace s pool to.state a
-place_after v s z g pool a to place = ⊎_elim
-    (λ new. inl (record { pages = to.pages; sweeps = to.sweeps; new = new }))
-    (λ (none, page, fresh, is). inr (record { vain = to.vain none; page = page; fresh = fresh; is = is }))
-    place
+-- where no page is spare in the heap, none is in the state
+none_spare_there : (v : View) (s : State) → Represents v s → HasNoSpareHeap v.heap → HasNoSpare s
+none_spare_there v s h spares = λ page spare.
+    spares page (let c = h.heap.pages.count in let lt = spare.0 in omega arith, sym (h.heap.pages.pools page) ∙ spare.1)
 
--- the state after the sweeps and the allocation
-pub made_from : (v w : View) (s : State) → Holds v s → (root : List ℕ) (fields : ℕ) (guard : Guard) (style : Style) (name a : ℕ) →
-    IsRootedAllocation v w root fields guard style name a → IsMadeFrom w s root fields guard style name a
-made_from v w s held root fields guard style name a r =
-    let to = until_free_holds v s r.swept w.finals (pool_for fields) held r.was_sound r.sound r.sweeps in
+-- the space `v` stands for the state `t`, to which a compaction that was completed in need led from `s`
+module _ (v : View) (s t : State) (pool : ℕ) (events : List Event) (tried : IsTriedInNeed s pool events t) (z : HeapView) (g : FinalLists)
+    (to : SweepsUntilFreeTo v t z g pool) where
+  -- the place in words of the state before that
+  place_after : (a : ℕ) → IsPlaceFor z to.state pool a → IsNewPlace s pool events to.state a
+  place_after a place = ⊎_elim
+      (λ new. free_in_need s pool events t to.state tried to.pages to.sweeps a new)
+      (λ (none, page, fresh, is).
+      inr (inr (record { vain = tried_in_vain s pool events t to.state tried (to.vain none); page = page; fresh = fresh; is = is })))
+      place
+
+  -- where there is no room in the heap after the sweeps, the state is at the limit
+  pub full_state : LacksRoom z pool → IsAtLimit s pool events to.state
+  full_state (none, full) = record {
+    vain = tried_in_vain s pool events t to.state tried (to.vain none);
+    none_spare = none_spare_there (with_swept v z g) to.state to.holds.represents full.0;
+    limit =
+        let pages = to.holds.represents.heap.pages in
+        pages.count ∙ full.1 ∙ sym pages.limited;
+  }
+
+  -- where an object needs a new page in the heap after the sweeps, it needs one in the state
+  pub needs_page : NeedsNewPage z pool → IsTriedInVain s pool events to.state × NeedsPage to.state
+  needs_page w =
+      let pages = to.holds.represents.heap.pages in (
+        tried_in_vain s pool events t to.state tried (to.vain w.none_free),
+        record {
+          none_spare = none_spare_there (with_swept v z g) to.state to.holds.represents w.none_spare;
+          below =
+              let most = to.holds.sound.layout.limited in
+              let other : length to.state.heap.pages ≡ to.state.heap.limit → ⊥ = λ e. w.below (sym pages.count ∙ e ∙ pages.limited) in
+              omega arith;
+        },
+      )
+
+-- the state after that, the sweeps and the allocation
+pub made_from : (v w : View) (s t : State) (root : List ℕ) (fields : ℕ) (guard : Guard) (style : Style) (name a : ℕ) (events : List Event) →
+    Holds v t → IsTriedInNeed s (pool_for fields) events t → IsRootedAllocation v w root fields guard style name a →
+    IsMadeFrom w s events root fields guard style name a
+made_from v w s t root fields guard style name a events held tried r =
+    let to = until_free_holds v t r.swept w.finals (pool_for fields) held r.was_sound r.sound r.sweeps in
     let u = with_swept v r.swept w.finals in
     let p = place_of u w to.state to.holds r.sound root fields guard style name a r.allocation in
-    let place = place_after v s r.swept w.finals (pool_for fields) a to p.place in
+    let place = place_after v s t (pool_for fields) events tried r.swept w.finals to a p.place in
     let named : name ≡ length to.state.graph + 1 = r.allocation.named ∙ ap (λ n. n + 1) to.holds.represents.heap.counted.allocated in
     let heap : w.heap ≡ placed p.heap a (new_object (length to.state.graph + 1) fields guard style) =
     p.becomes ∙ ap (λ n. placed p.heap a (new_object n fields guard style)) named in
@@ -181,34 +216,3 @@ made_from v w s held root fields guard style name a r =
       place = place;
       made = refl;
     }
-
--- where no page is spare in the heap, none is in the state
-none_spare_there : (v : View) (s : State) → Represents v s → HasNoSpareHeap v.heap → HasNoSpare s
-none_spare_there v s h spares = λ page spare.
-    spares page (let c = h.heap.pages.count in let lt = spare.0 in omega arith, sym (h.heap.pages.pools page) ∙ spare.1)
-
--- where there is no room in the heap after the sweeps, the state is at the limit
-pub full_state : (v : View) (s : State) (z : HeapView) (g : FinalLists) (pool : ℕ) (to : SweepsUntilFreeTo v s z g pool) → LacksRoom z pool →
-    IsAtLimit s pool to.state
-full_state v s z g pool to (none, full) = record {
-  vain = to.vain none;
-  none_spare = none_spare_there (with_swept v z g) to.state to.holds.represents full.0;
-  limit =
-      let pages = to.holds.represents.heap.pages in
-      pages.count ∙ full.1 ∙ sym pages.limited;
-}
-
--- where an object needs a new page in the heap after the sweeps, it needs one in the state
-pub needs_page : (v : View) (s : State) (z : HeapView) (g : FinalLists) (pool : ℕ) (to : SweepsUntilFreeTo v s z g pool) → NeedsNewPage z pool →
-    IsSweptInVain s pool to.state × NeedsPage to.state
-needs_page v s z g pool to w =
-    let pages = to.holds.represents.heap.pages in (
-      to.vain w.none_free,
-      record {
-        none_spare = none_spare_there (with_swept v z g) to.state to.holds.represents w.none_spare;
-        below =
-            let most = to.holds.sound.layout.limited in
-            let other : length to.state.heap.pages ≡ to.state.heap.limit → ⊥ = λ e. w.below (sym pages.count ∙ e ∙ pages.limited) in
-            omega arith;
-      },
-    )

@@ -1,14 +1,18 @@
--- How far an allocation, and the sweeps before it, change a heap's counts, and that they leave a quiescent heap at rest so.
-use Rattle.std.proofs.Common.{◌<◌, ◌^◌, ◌≡◌, ◌≢◌, ℕ, ◌+◌, ◌≤◌, Bool, List, length, refl, sym, ap, ◌∙◌, subst, arith, ⊎_elim}
+-- How far an allocation, and what comes before it, change a heap's counts, and that they leave a quiescent heap so.
+use Rattle.std.proofs.Common.{◌<◌, ◌^◌, ◌≡◌, ◌≢◌, ℕ, zero, suc, ◌+◌, ◌≤◌, Bool, List, [], length, refl, sym, ap, ◌∙◌, subst, arith, ⊎_elim, inl, inr}
 use Rattle.std.proofs.lemmas.Bool.{cases_eq}
 use Rattle.space_model.specs.declared.object.Guard.{Guard}
 use Rattle.space_model.specs.declared.object.Style.{Style}
 use Rattle.space_model.specs.declared.reply.Reply.{Reply}
-use Rattle.space_model.specs.declared.reply.Reply.TheVariants.{Made, Full}
+use Rattle.space_model.specs.declared.reply.Reply.TheVariants.{Made, Full, NoMemory}
+use Rattle.space_model.specs.declared.phase.Phase.TheVariants.{Idle}
 use Rattle.space_model.specs.Layout.{pool_for}
+use Rattle.space_model.specs.Spelling.{IsSpelled}
+use Rattle.space_model.specs.Texts.{reply_pieces}
 use Rattle.space_finals.specs.FinalLists.{FinalLists}
 use Rattle.space_heap.specs.declared.colour.Colour.TheVariants.{White, Grey}
 use Rattle.space_heap.specs.Allocations.{IsAllocation}
+use Rattle.space_heap.specs.FreeSlots.{HasNoFree}
 use Rattle.space_heap.specs.HeapView.{Counters, HeapView}
 use Rattle.space_heap.specs.Marking.{colour_of}
 use Rattle.space_heap.specs.NewPages.{IsLeastSpare}
@@ -20,15 +24,23 @@ use Rattle.space_heap.proofs.GoneLaws.{is_gone-placed, is_gone-with_page}
 use Rattle.space_heap.proofs.NewPageLaws.{object_of-with_page}
 use Rattle.space_heap.proofs.NewPageSlots.{rest-with_page}
 use Rattle.space_heap.proofs.ObjectLaws.{counters-placed, grey-placed, phase-placed, unswept-placed, object_of-placed_same, object_of-placed_other}
-use Rattle.space_collector.specs.PagesSwept.{SweepsUntilFree, LeavesRest}
+use Rattle.space_collector.specs.PagesSwept.{SweepsInNeed, SweepsUntilFree, LeavesRest}
 use Rattle.space_collector.specs.Quiescent.{IsQuiescent, most_slots}
 use Rattle.space_collector.proofs.AllSweeps.{leaves_rest_pages}
 use Rattle.space_collector.proofs.HeapSweeps.{heap_pages, in_need_pages}
-use Rattle.space_engine.specs.Allocations.{IsLastReply, IsSwept}
+use Rattle.space_engine.specs.Allocations.{IsFirstReply, IsLastReply, IsSwept, NeedsCompletion}
 use Rattle.space_engine.specs.HeapCollections.{HasJudged}
-use Rattle.space_engine.specs.Turns.{CanAnswer, CanCompleteAndCollect, IsAtRest, IsWork, IsOneTurn}
+use Rattle.space_engine.specs.Turns.{CanAnswer, CanCompleteAndCollect, IsAtRest, IsCompacting, IsWork, IsQuietWork, IsOneTurn}
 use Rattle.space_engine.specs.Views.{View}
-use Rattle.space_engine.proofs.TurnLaws.{IsAlike, quiescent_alike, rests_alike, work_swept, work_then, work_born}
+use Rattle.space_engine.proofs.TurnLaws.{IsAlike, quiescent_alike, rests_left, work_swept, work_then, work_born}
+
+-- sweeps allocate nothing and do no verdict
+quiet_left : (v w : HeapView) → LeavesRest v w → IsWork 1 0 v w → IsQuietWork 1 0 v w
+quiet_left v w rest work =
+    let born = ap (λ (c : Counters). c.born) rest.counters in
+    let minors = ap (λ (c : Counters). c.minor_verdicts) rest.counters in
+    let others = ap (λ (c : Counters). c.other_verdicts) rest.counters in
+    record { work = work; born = omega arith; minor_verdicts = omega arith; other_verdicts = omega arith }
 
 -- an object was allocated
 
@@ -84,19 +96,17 @@ module _ (v w : HeapView) (fields : ℕ) (guard : Guard) (style : Style) (name a
   quiescent_allocated : IsQuiescent v → IsQuiescent w
   quiescent_allocated q = quiescent_alike u w placed_alike (quiescent_alike v u prepared_alike.0 q)
 
-  rests_allocated : IsAtRest v → IsAtRest w
-  rests_allocated rests = rests_alike u w placed_alike.phase (rests_alike v u prepared_alike.0.phase rests)
-
   -- nothing was swept
-  work_allocated : IsWork 0 v w
-  work_allocated = work_born 0 v w (v.counters.born + 1) counters_allocated (omega arith) (λ q rests. quiescent_allocated q) rests_allocated
+  work_allocated : IsWork 0 0 v w
+  work_allocated = work_born 0 0 v w (v.counters.born + 1) counters_allocated (omega arith) quiescent_allocated
 
   -- and before that pages were swept
-  pub work_made : (before : HeapView) → LeavesRest before v → v.counters.freed ≤ before.counters.freed + most_slots → IsQuiescent v → IsWork 1 before w
-  work_made before rest most q = work_then 1 0 before v w (work_swept before v rest most q) work_allocated
-      (ap (λ (c : Counters). c.born) rest.counters)
-      (ap (λ (c : Counters). c.minor_verdicts) rest.counters)
-      (ap (λ (c : Counters). c.other_verdicts) rest.counters)
+  pub work_made : (before : HeapView) → LeavesRest before v → v.counters.freed ≤ before.counters.freed + most_slots → IsQuiescent v → IsWork 1 0 before w
+  work_made before rest most q = work_then 1 0 0 0 before v w (quiet_left before v rest (work_swept before v rest most q)) work_allocated
+
+  -- the name is the last
+  pub named_last : name ≡ w.counters.born
+  named_last = all.named ∙ sym (ap (λ (c : Counters). c.born) counters_allocated)
 
 -- what sweeps in need leave as it was
 pub rest_swept : (v : HeapView) (f : FinalLists) (w : HeapView) (g : FinalLists) (pool : ℕ) → IsSoundHeap v → SweepsUntilFree v f w g pool → LeavesRest v w
@@ -134,7 +144,8 @@ keeps_last v w root is_new fields guard style _ last = absurd last
 
 -- a collection, and then the last allocation or none
 pub work_late : (before : HeapView) (v w : View) (root : List ℕ) (is_new : Bool) (fields : ℕ) (guard : Guard) (style : Style) (reply : Reply) →
-    HasJudged 1 2 most_slots before v.heap → IsLastReply v w root is_new fields guard style reply → IsWork 1 v.heap w.heap → IsWork 2 before w.heap
+    HasJudged 1 2 most_slots 1 before v.heap → IsLastReply v w root is_new fields guard style reply → IsWork 1 0 v.heap w.heap →
+    IsWork 2 1 before w.heap
 work_late before v w root is_new fields guard style reply judged last later =
     let keeps = keeps_last v w root is_new fields guard style reply last in
     let minors = keeps.minor_verdicts in
@@ -143,19 +154,45 @@ work_late before v w root is_new fields guard style reply judged last later =
     let was_minors = judged.minor_verdicts in
     let was_others = judged.other_verdicts in
     let was_freed = judged.freed in
+    let was_compactions = judged.compactions in
+    let was_moves = judged.moves in
     let born = later.born in
     let freed = later.freed in
+    let compactions = later.compactions in
+    let moves = later.moves in
     record {
       born = omega arith;
       minor_verdicts = omega (arith, minors, was_minors);
       other_verdicts = omega (arith, others, was_others);
       freed = omega (arith, was_freed, freed);
-      quiescent = λ q rests. later.quiescent judged.quiescent judged.rests;
-      rests = λ rests. later.rests judged.rests;
+      compactions = omega arith;
+      moves = omega arith;
+      quiescent = λ q. later.quiescent judged.quiescent;
     }
 
+-- a name is the last that was given, so the reply can be written
+pub last_spelled : (v w : View) (root : List ℕ) (is_new : Bool) (fields : ℕ) (guard : Guard) (style : Style) (reply : Reply) →
+    IsLastReply v w root is_new fields guard style reply → w.heap.counters.born ≤ 2 ^ 62 → IsSpelled (reply_pieces reply)
+last_spelled v w root is_new fields guard style (Made name address) last few =
+    (let is = named_last last.swept w.heap fields guard style name address last.allocation in omega (arith, is, few), tt)
+last_spelled v w root is_new fields guard style Full last few = tt
+last_spelled v w root is_new fields guard style _ last few = absurd last
+
+pub first_spelled : (v w : View) (root : List ℕ) (is_new : Bool) (fields : ℕ) (guard : Guard) (style : Style) (reply : Reply) →
+    IsFirstReply v w root is_new fields guard style reply → w.heap.counters.born ≤ 2 ^ 62 → IsSpelled (reply_pieces reply)
+first_spelled v w root is_new fields guard style (Made name address) first few =
+    (let is = named_last first.swept w.heap fields guard style name address first.allocation in omega (arith, is, few), tt)
+first_spelled v w root is_new fields guard style NoMemory first few = tt
+first_spelled v w root is_new fields guard style _ first few = absurd first
+
+-- where no page waits none is swept
+none_swept : (pages : ℕ) (v : HeapView) (f : FinalLists) (w : HeapView) (g : FinalLists) (pool : ℕ) → v.unswept ≡ [] → SweepsInNeed pages v f pool w g →
+    w ≡ v
+none_swept zero v f w g pool none swept = swept.0
+none_swept (suc pages) v f w g pool none (full, mid, between, first, others) = (let some = sym none ∙ first.sweeps.first in absurd (cc))
+
 -- an allocation found no room, and pages were swept
-module _ (r u : View) (pool : ℕ) (swept : IsSwept r u pool) (work : IsWork 1 r.heap u.heap) where
+module _ (r u : View) (pool : ℕ) (swept : IsSwept r u pool) (work : IsWork 1 0 r.heap u.heap) where
   abbrev rest : LeavesRest r.heap u.heap
   rest = rest_swept r.heap r.finals u.heap u.finals pool swept.was_sound swept.sweeps
 
@@ -163,33 +200,119 @@ module _ (r u : View) (pool : ℕ) (swept : IsSwept r u pool) (work : IsWork 1 r
   pub limit_after : length r.heap.pages ≡ r.heap.limit → length u.heap.pages ≡ u.heap.limit
   limit_after limit = rest.page_count ∙ limit ∙ sym rest.limit
 
-  -- a command that could be answered can still collect
-  module _ (able : CanAnswer r.heap) where
-    pub names_after : u.heap.counters.born < 2 ^ 62
-    names_after =
-        let born = ap (λ (c : Counters). c.born) rest.counters in
-        let few = able.born in
-        omega arith
+  -- a collection can be done still
+  pub able_after : CanCompleteAndCollect r.heap → r.heap.counters.freed < 2 ^ 60 → CanCompleteAndCollect u.heap
+  able_after able few =
+      let minors = ap (λ (c : Counters). c.minor_verdicts) rest.counters in
+      let others = ap (λ (c : Counters). c.other_verdicts) rest.counters in
+      let compactions = ap (λ (c : Counters). c.compactions) rest.counters in
+      let moves = ap (λ (c : Counters). c.moves) rest.counters in
+      let few_minors = able.minor_verdicts in
+      let few_others = able.other_verdicts in
+      let few_compactions = able.compactions in
+      let few_moves = able.moves in
+      let freed = work.freed in
+      record {
+        quiescent = work.quiescent able.quiescent;
+        minor_verdicts = omega arith;
+        other_verdicts = omega arith;
+        freed = omega (arith, freed, few);
+        compactions = omega arith;
+        moves = omega arith;
+      }
 
-    pub able_after : CanCompleteAndCollect u.heap
-    able_after =
-        let minors = ap (λ (c : Counters). c.minor_verdicts) rest.counters in
-        let others = ap (λ (c : Counters). c.other_verdicts) rest.counters in
-        let few_minors = able.collect.minor_verdicts in
-        let few_others = able.collect.other_verdicts in
-        let freed = work.freed in
-        let few = able.freed in
-        record {
-          quiescent = work.quiescent able.collect.quiescent able.collect.rests;
-          rests = work.rests able.collect.rests;
-          minor_verdicts = omega arith;
-          other_verdicts = omega arith;
-          freed = omega (arith, freed, few);
-        }
+  pub names_after : r.heap.counters.born < 2 ^ 62 → u.heap.counters.born < 2 ^ 62
+  names_after few = let born = ap (λ (c : Counters). c.born) rest.counters in omega arith
+
+  -- nothing came to be under way
+  pub idle_after : r.heap.phase ≡ Idle → u.heap.phase ≡ Idle
+  idle_after idle = ⊎_elim (λ same. same ∙ idle) (λ e. e) rest.phase
+
+  -- where a compaction that was needed would have been completed, none is under way
+  pub rests_after : IsQuiescent r.heap → (NeedsCompletion r.heap pool → ⊥) → HasNoFree u.heap pool → IsAtRest u.heap
+  rests_after q ready none = rests_left r.heap u.heap rest (λ moving. still (inl moving), λ fixing. still (inr fixing))
+    where
+      still : IsCompacting r.heap → ⊥
+      still compacting =
+          let waits : r.heap.unswept ≡ [] = q.none_waits (λ sweeping. ⊎_elim (λ moving. cc) (λ fixing. cc) compacting) in
+          let same : u.heap ≡ r.heap = none_swept swept.sweeps.pages r.heap r.finals u.heap u.finals pool waits swept.sweeps.sweeps in
+          ready (compacting, subst (λ heap. HasNoFree heap pool) same none)
 
   -- a collection comes then, and the last allocation or none
-  pub turn_late : (z : HeapView) → IsWork 2 u.heap z → IsOneTurn r.heap z
-  turn_late z later = work_then 1 2 r.heap u.heap z work later
-      (ap (λ (c : Counters). c.born) rest.counters)
-      (ap (λ (c : Counters). c.minor_verdicts) rest.counters)
-      (ap (λ (c : Counters). c.other_verdicts) rest.counters)
+  pub work_later : (z : HeapView) → IsWork 2 1 u.heap z → IsWork 3 1 r.heap z
+  work_later z later = work_then 1 2 0 1 r.heap u.heap z (quiet_left r.heap u.heap rest work) later
+
+-- a compaction was completed in need, or not
+
+pub quiet_completed : (v w : HeapView) → HasJudged 0 0 0 1 v w → IsQuietWork 0 1 v w
+quiet_completed v w judged =
+    let born = judged.born in
+    let minors = judged.minor_verdicts in
+    let others = judged.other_verdicts in
+    let freed = judged.freed in
+    let compactions = judged.compactions in
+    let moves = judged.moves in
+    record {
+      work = record {
+        born = omega arith;
+        minor_verdicts = omega arith;
+        other_verdicts = omega arith;
+        freed = omega arith;
+        compactions = compactions;
+        moves = moves;
+        quiescent = λ q. judged.quiescent;
+      };
+      born = omega arith;
+      minor_verdicts = omega arith;
+      other_verdicts = omega arith;
+    }
+
+pub quiet_same : (v : HeapView) → IsQuietWork 0 1 v v
+quiet_same v = record {
+  work = record {
+    born = omega arith;
+    minor_verdicts = omega arith;
+    other_verdicts = omega arith;
+    freed = omega arith;
+    compactions = omega arith;
+    moves = omega arith;
+    quiescent = λ q. q;
+  };
+  born = omega arith;
+  minor_verdicts = omega arith;
+  other_verdicts = omega arith;
+}
+
+-- after it the rest can be done
+module _ (v u : HeapView) (work : IsQuietWork 0 1 v u) where
+  module _ (able : CanAnswer v) where
+    pub able_completed : CanCompleteAndCollect u
+    able_completed =
+        let few = able.collect in
+        let minors = work.minor_verdicts in
+        let others = work.other_verdicts in
+        let freed = work.work.freed in
+        let compactions = work.work.compactions in
+        let moves = work.work.moves in
+        let few_minors = few.minor_verdicts in
+        let few_others = few.other_verdicts in
+        let few_freed = able.freed in
+        let few_compactions = able.compactions in
+        let few_moves = able.moves in
+        record {
+          quiescent = work.work.quiescent few.quiescent;
+          minor_verdicts = omega arith;
+          other_verdicts = omega arith;
+          freed = omega arith;
+          compactions = omega arith;
+          moves = omega arith;
+        }
+
+    pub names_completed : u.counters.born < 2 ^ 62
+    names_completed = let born = work.born in let few = able.born in omega arith
+
+    pub freed_completed : u.counters.freed < 2 ^ 60
+    freed_completed = let freed = work.work.freed in let few = able.freed in omega arith
+
+  pub turn_completed : (w : HeapView) → IsWork 3 1 u w → IsOneTurn v w
+  turn_completed w later = work_then 0 3 1 1 v u w work later

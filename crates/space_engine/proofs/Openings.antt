@@ -4,7 +4,7 @@ use Rattle.std.specs.List.{IsDistinct}
 use Rattle.std.specs.Ordering.{nat_cmp}
 use Rattle.std.specs.FinMap.{get-empty}
 use Rattle.std.proofs.lemmas.Bool.{and_parts}
-use Rattle.space_model.specs.declared.phase.Phase.TheVariants.{Idle, Marking, Sweeping, Moving, Fixing}
+use Rattle.space_model.specs.declared.phase.Phase.TheVariants.{Idle, Marking, Sweeping}
 use Rattle.space_model.specs.State.{opening}
 use Rattle.space_model.proofs.SoundKept.{Sound-opening}
 use Rattle.space_heap.specs.declared.colour.Colour.TheVariants.{White, Grey}
@@ -85,19 +85,14 @@ opening_within limit = record {
     none_moved = λ moving fixing. is_moved-empty limit;
     none_grey = λ phase. record { listed = refl; objects = λ a e. white_grey (sym (white_where_none (empty_heap limit) a (is_occupied-empty limit a)) ∙ e) };
   };
-  rests = (λ e. idle_moving e, λ e. idle_fixing e);
   born = lit≤ tt;
   minor_verdicts = lit≤ tt;
   other_verdicts = lit≤ tt;
   freed = lit≤ tt;
+  compactions = lit≤ tt;
+  moves = lit≤ tt;
 }
   where
-    idle_moving : Idle ≢ Moving
-    idle_moving e = cc
-
-    idle_fixing : Idle ≢ Fixing
-    idle_fixing e = cc
-
     idle_sweeping : Idle ≢ Sweeping
     idle_sweeping e = cc
 

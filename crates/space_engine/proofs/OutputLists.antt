@@ -1,5 +1,5 @@
 -- One list of outputs after another: what is counted of both, and that both can be written.
-use Rattle.std.proofs.Common.{◌≡◌, List, [], ◌∷◌, ◌++◌, length, map, ℕ, suc, ◌+◌, refl, sym, ap, ◌∙◌, subst, arith}
+use Rattle.std.proofs.Common.{◌≡◌, List, [], ◌∷◌, ◌++◌, length, map, ℕ, zero, suc, ◌+◌, refl, sym, ap, ◌∙◌, subst, arith}
 use Rattle.std.proofs.lemmas.List.{map-append}
 use Rattle.space_model.specs.declared.event.Event.{Event}
 use Rattle.space_model.specs.declared.event.Event.TheVariants.{Gone, Verdict}
@@ -7,10 +7,15 @@ use Rattle.space_model.specs.declared.event.Kind.{Kind}
 use Rattle.space_model.specs.Outputs.{Output, Told}
 use Rattle.space_model.specs.Texts.{AreSpelled}
 use Rattle.space_engine.specs.declared.counts.Counts.{Counts}
+use Rattle.space_heap.specs.HeapView.{HeapView}
+use Rattle.space_collector.specs.HeapMoves.{MovesTold}
 use Rattle.space_engine.specs.Counting.{no_counts, output_counts, sum_of_counts, counts_of}
 
 plus_none : (a : ℕ) → 0 + a ≡ a
 plus_none a = omega arith
+
+none_after : (a : ℕ) → a + 0 ≡ a
+none_after a = omega arith
 
 plus_assoc : (a b c : ℕ) → a + b + c ≡ a + (b + c)
 plus_assoc a b c = omega arith
@@ -55,15 +60,29 @@ counted_names kind (name ∷ names) k = ap (sum_of_counts (record no_counts { go
     one_more n = ap (λ k. record no_counts { gone = k }) (omega arith)
 
 -- events, and then others, tell of as many gone objects as both
-pub counted_both : (xs ys : List Event) (some others : ℕ) → counts_of (map Told xs) ≡ record no_counts { gone = some } →
-    counts_of (map Told ys) ≡ record no_counts { gone = others } → counts_of (map Told (xs ++ ys)) ≡ record no_counts { gone = some + others }
-counted_both xs ys some others first second =
+pub counted_both : (xs ys : List Event) (some moves others : ℕ) → counts_of (map Told xs) ≡ record no_counts { gone = some; moves = moves } →
+    counts_of (map Told ys) ≡ record no_counts { gone = others } →
+    counts_of (map Told (xs ++ ys)) ≡ record no_counts { gone = some + others; moves = moves }
+counted_both xs ys some moves others first second =
     ap counts_of (map-append Told xs ys)
     ∙ counts_of-append (map Told xs) (map Told ys)
     ∙ ap (λ c. sum_of_counts c (counts_of (map Told ys))) first
-    ∙ ap (sum_of_counts (record no_counts { gone = some })) second
+    ∙ ap (sum_of_counts (record no_counts { gone = some; moves = moves })) second
+    ∙ ap (λ n. record no_counts { gone = some + others; moves = n }) (none_after moves)
 
 -- both can be written
 pub spelled_both : (xs ys : List Event) → AreSpelled (map Told xs) → AreSpelled (map Told ys) → AreSpelled (map Told (xs ++ ys))
 spelled_both xs ys first second =
     subst AreSpelled (sym (map-append Told xs ys)) (AreSpelled-append (map Told xs) (map Told ys) first second)
+
+-- the lines of moves tell of as many moves
+pub moves_counted : (count : ℕ) (v : HeapView) (events : List Event) (w : HeapView) → MovesTold count v events w →
+    counts_of (map Told events) ≡ record no_counts { moves = count }
+moves_counted zero v events w (none, same) = ap (λ events. counts_of (map Told events)) none
+moves_counted (suc count) v events w (made, later, mid, both, first, others) =
+    ap (λ events. counts_of (map Told events)) both
+    ∙ ap (sum_of_counts (record no_counts { moves = 1 })) (moves_counted count mid later w others)
+    ∙ one_more count
+  where
+    one_more : (n : ℕ) → sum_of_counts (record no_counts { moves = 1 }) (record no_counts { moves = n }) ≡ record no_counts { moves = suc n }
+    one_more n = ap (λ k. record no_counts { moves = k }) (omega arith)

@@ -1,34 +1,39 @@
--- A root whose place was made before it is written: what it holds then, and what a collection makes of its place.
-use Rattle.std.proofs.Common.{◌≡◌, ◌⊎◌, ℕ, List, [], ◌∷◌, ◌++◌, Bool, true, false, None, refl, sym, ap, ◌∙◌, subst, IsTrue, if◌then◌else◌, ⊎_elim, inl, inr}
+-- A root whose place was made before it is written: what it holds then, and what a completion and a collection make of its place.
+use Rattle.std.proofs.Common.{◌≡◌, ◌⊎◌, ℕ, List, [], ◌∷◌, ◌++◌, Bool, true, false, Option, None, Some, IsSome, refl, sym, ap, ◌∙◌, subst, IsTrue, if◌then◌else◌, ⊎_elim, inl, inr}
+use Rattle.std.specs.Option.{option_map}
 use Rattle.std.proofs.lemmas.Bool.{eqb-true, or_cases, false≢true}
 use Rattle.std.proofs.lemmas.List.{map-append}
 use Rattle.space_model.specs.declared.event.Event.{Event}
 use Rattle.space_model.specs.declared.event.Kind.TheVariants.{Major, Full}
 use Rattle.space_model.specs.declared.object.Guard.{Guard}
 use Rattle.space_model.specs.declared.object.Style.{Style}
+use Rattle.space_model.specs.declared.phase.Phase.{Phase}
+use Rattle.space_model.specs.declared.phase.Phase.TheVariants.{Moving, Fixing}
 use Rattle.space_model.specs.State.{State}
 use Rattle.space_model.proofs.Members.{member_left, member_cases}
 use Rattle.space_model.proofs.Reaching.{IsReached-start, IsReached-mono}
 use Rattle.space_model.proofs.WholeLaws.{counted_also}
 use Rattle.space_finals.specs.FinalLists.{FinalLists}
-use Rattle.space_heap.specs.HeapView.{HeapView}
+use Rattle.space_heap.specs.HeapView.{HeapView, is_slot, slot_at}
 use Rattle.space_heap.specs.Marking.{unmarked}
-use Rattle.space_heap.specs.Objects.{is_object}
+use Rattle.space_heap.specs.Objects.{is_object, resolved}
 use Rattle.space_major.specs.Incremental.{IsMarkedAtEnd}
 use Rattle.space_tracing.specs.Graph.{IsChild, IsNamed, IsStart, IsLive}
 use Rattle.space_tracing.specs.Marking.{IsMarked}
 use Rattle.space_tracing.proofs.Noted.{noted_by}
 use Rattle.space_roots.specs.WordRoots.{root_word, root_words}
 use Rattle.space_roots.proofs.RootLemmas.{with_root_word-reserved, without_root-reserved}
-use Rattle.space_engine.specs.Allocations.{IsReserved, IsReservedAndSwept, IsSwept, IsRootedAllocation}
+use Rattle.space_engine.specs.Allocations.{IsReserved, IsSwept, IsRootedAllocation}
 use Rattle.space_engine.specs.Stands.{Holds}
-use Rattle.space_engine.specs.Views.{View, with_finals, with_judged, with_swept, with_root_dropped, with_root_reserved, with_root_written}
-use Rattle.space_engine.specs.HeapCollections.{IsTelling, IsHeapCompletion}
-use Rattle.space_engine.specs.Turns.{IsAtRest}
+use Rattle.space_engine.specs.Views.{View, with_heap, with_judged, with_swept, with_root_dropped, with_root_reserved, with_root_written, fixing_begun, compaction_ended}
+use Rattle.space_engine.specs.Words.{resolved_roots}
+use Rattle.space_engine.specs.HeapCollections.{IsTelling, IsHeapCompletion, IsCompletion, IsCollected, CompletesFixes}
+use Rattle.space_engine.specs.Turns.{IsAtRest, IsCompacting}
 use Rattle.space_engine.proofs.Collecting.{CompletesTo, completes_to}
-use Rattle.space_engine.proofs.CollectionsAtRest.{IsHeapCollection}
+use Rattle.space_engine.proofs.Completing.{rests_complete, moves_complete, fixes_complete}
 use Rattle.space_engine.proofs.FieldWords.{nothing_at_zero}
-use Rattle.space_engine.proofs.Purges.{completed_view, completed_is}
+use Rattle.space_engine.proofs.Purges.{completed_view, completed_is, completed_as}
+use Rattle.space_engine.proofs.ResolvedRoots.{root_word-resolved}
 
 module _ (v : View) (root : List ℕ) where
   written_again : (heap : HeapView) (finals : FinalLists) (is_new : Bool) (word : ℕ) → (IsTrue is_new → root_word v.roots root ≡ None) →
@@ -64,10 +69,6 @@ module _ (v r : View) (root : List ℕ) (is_new : Bool) (reserved : IsReserved v
       ap (λ (r : View). if is_new then with_root_dropped (with_swept r z g) root else with_swept r z g) reserved.becomes
       ∙ dropped_again v root z g is_new reserved.absent
 
-  -- a collection leaves the place, which has no part in ids, weak maps and finalizers
-  pub judged_reserved : (z : HeapView) (g : FinalLists) → IsReserved (with_finals (with_judged v z) g) (with_finals (with_judged r z) g) root is_new
-  judged_reserved z g = record { becomes = ap (λ (u : View). with_finals (with_judged u z) g) reserved.becomes; absent = reserved.absent }
-
   -- the heap is as it was
   pub heap_reserved : r.heap ≡ v.heap
   heap_reserved = ap (λ (w : View). w.heap) reserved.becomes
@@ -79,18 +80,12 @@ module _ (v r : View) (root : List ℕ) (is_new : Bool) (reserved : IsReserved v
       let kept = allocated_reserved r.heap r.finals w fields guard style name a allocated in
       subst (λ (u : View). IsRootedAllocation (with_swept v u.heap u.finals) w root fields guard style name a) reserved.becomes kept
 
-  -- where only pages were swept, nothing else is left
-  pub dropped_swept : (w z : View) (pool : ℕ) → IsSwept r w pool → z ≡ (if is_new then with_root_dropped w root else w) →
-      z ≡ with_swept v w.heap w.finals
-  dropped_swept w z pool swept dropped =
-      dropped ∙ ap (λ (u : View). if is_new then with_root_dropped u root else u) swept.becomes ∙ dropped_reserved w.heap w.finals
-
 -- a place was made for the root and then pages were swept: it is as if the place was made after the sweeps
-pub reserved_after : (v w : View) (root : List ℕ) (is_new : Bool) (pool : ℕ) → IsReservedAndSwept v w root is_new pool →
+pub reserved_after : (v r w : View) (root : List ℕ) (is_new : Bool) (pool : ℕ) → IsReserved v r root is_new → IsSwept r w pool →
     IsReserved (with_swept v w.heap w.finals) w root is_new
-reserved_after v w root is_new pool r = record {
-  becomes = r.swept.becomes ∙ ap (λ (u : View). with_swept u w.heap w.finals) r.reserves.becomes;
-  absent = r.reserves.absent;
+reserved_after v r w root is_new pool reserved swept = record {
+  becomes = swept.becomes ∙ ap (λ (u : View). with_swept u w.heap w.finals) reserved.becomes;
+  absent = reserved.absent;
 }
 
 -- a word that names no object starts nothing
@@ -182,21 +177,57 @@ module _ (old new : HeapView) (roots others stack : List ℕ) (scans : ℕ) (eve
         events_are = t.events_are;
       }
 
--- the place that is made for a root has no part in a collection
-module _ (v : View) (s : State) (h : Holds v s) (rests : IsAtRest v.heap) (z : HeapView) (g : FinalLists) (ended scans : ℕ)
-    (events : List Event) where
+-- the words of the roots with the place, which holds the word 0
+reserved_words : (v : View) (root : List ℕ) → root_words (with_root_reserved v root true).roots ≡ root_words v.roots ++ 0 ∷ []
+reserved_words v root = map-append (λ (root : List ℕ × ℕ). root.1) v.roots ((root, 0) ∷ [])
+
+-- the word 0 leads to itself
+zero_leads : (heap : HeapView) → resolved heap 0 ≡ 0
+unfolding resolved slot_at is_slot
+zero_leads heap = refl
+
+-- what was under way was completed, without the place
+pub record CompletesBefore (v new : View) (root : List ℕ) (is_new : Bool) (ended : ℕ) (events : List Event) : Type 0 where
+  pub plain : View
+  pub reserved : IsReserved plain new root is_new
+  pub completes : IsCompletion v plain ended events
+
+-- references were corrected, without the place
+record FixesBefore (v new : View) (root : List ℕ) : Type 0 where
+  plain : View
+  reserved : IsReserved plain new root true
+  fixes : CompletesFixes v plain
+
+fixes_before : (v new : View) (root : List ℕ) → root_word v.roots root ≡ None → CompletesFixes (with_root_reserved v root true) new → FixesBefore v new root
+fixes_before v new root absent c =
+    let fixed : HeapView = c.fixed in
+    let plain : View = compaction_ended (with_heap v fixed) in
+    let roots : resolved_roots fixed (v.roots ++ (root, 0) ∷ []) ≡ resolved_roots fixed v.roots ++ (root, 0) ∷ [] =
+    map-append (λ (other : List ℕ × ℕ). (other.0, resolved fixed other.1)) v.roots ((root, 0) ∷ [])
+    ∙ ap (λ word. resolved_roots fixed v.roots ++ (root, word) ∷ []) (zero_leads fixed) in
+    record {
+      plain = plain;
+      reserved = record {
+        becomes = c.ends ∙ ap (λ roots. record plain { roots = roots }) roots;
+        absent = λ yes_new. root_word-resolved fixed v.roots root ∙ ap (option_map (resolved fixed)) absent;
+      };
+      fixes = record { visits = c.visits; fixed = fixed; makes = c.makes; sound = c.sound; all = c.all; ends = refl };
+    }
+
+-- the place that is made for a root has no part in a completion
+module _ (v : View) (s : State) (h : Holds v s) (ended : ℕ) (events : List Event) where
   abbrev words : List ℕ
   words = root_words v.roots
 
-  same_completion : (idle : HeapView) (finals : FinalLists) (completion : List Event) →
-      IsHeapCompletion v.heap v.finals idle finals (words ++ 0 ∷ []) v.stack ended completion →
-      IsHeapCompletion v.heap v.finals idle finals words v.stack ended completion
-  same_completion idle finals completion c = record {
+  same_completion : (idle : HeapView) (finals : FinalLists) →
+      IsHeapCompletion v.heap v.finals idle finals (words ++ 0 ∷ []) v.stack ended events →
+      IsHeapCompletion v.heap v.finals idle finals words v.stack ended events
+  same_completion idle finals c = record {
     marking = λ marking.
         let both = c.marking marking in
         record {
           judged = both.judged;
-          tells = same_end v.heap both.judged (words ++ 0 ∷ []) words v.stack ended completion
+          tells = same_end v.heap both.judged (words ++ 0 ∷ []) words v.stack ended events
               (named_before v.heap words (nothing_at_zero v s h))
               (named_after v.heap words)
               both.tells;
@@ -205,34 +236,128 @@ module _ (v : View) (s : State) (h : Holds v s) (rests : IsAtRest v.heap) (z : H
     others = c.others;
   }
 
-  -- the words of the roots are the same after the completion, and there too nothing lies at 0
-  same_collection : IsHeapCollection v.heap v.finals z g Full (words ++ 0 ∷ []) v.stack ended scans events →
-      IsHeapCollection v.heap v.finals z g Full words v.stack ended scans events
-  same_collection c =
-      let completes = same_completion c.idle g c.completion c.completes in
-      let mid : View = completed_view v c.idle g in
-      let to : CompletesTo mid s ended c.completion = completes_to v s h rests mid ended c.completion
-      (record { rests = λ rests. record { heap = completes; rest = sym (completed_is v c.idle g) }; idle = c.at_idle }) in
-      let nothing = nothing_at_zero mid to.state to.holds in
-      record {
-        idle = c.idle;
-        at_idle = c.at_idle;
+  module _ (new : View) (root : List ℕ) (absent : root_word v.roots root ≡ None)
+      (c : IsCompletion (with_root_reserved v root true) new ended events) where
+    rests_before : IsAtRest v.heap → CompletesBefore v new root true ended events
+    rests_before rests =
+        let at_rest = c.rests rests in
+        record {
+          plain = completed_view v new.heap new.finals;
+          reserved = record { becomes = completed_as (with_root_reserved v root true) new at_rest.rest; absent = λ yes_new. absent };
+          completes = rests_complete v (completed_view v new.heap new.finals) ended events rests (sym (completed_is v new.heap new.finals)) c.idle
+              (same_completion new.heap new.finals
+              (subst (λ words. IsHeapCompletion v.heap v.finals new.heap new.finals words v.stack ended events) (reserved_words v root) at_rest.heap));
+        }
+
+    moves_before : v.heap.phase ≡ Moving → CompletesBefore v new root true ended events
+    moves_before moving =
+        let m = c.moving moving in
+        let f = fixes_before (fixing_begun (with_heap v m.packed)) new root absent m.fixes in
+        record {
+          plain = f.plain;
+          reserved = f.reserved;
+          completes = moves_complete v f.plain ended events moving
+              (ap (λ (u : View). u.heap.phase) (sym f.reserved.becomes) ∙ c.idle)
+              (record {
+                packed = m.packed;
+                count = m.count;
+                moves = m.moves;
+                done = m.done;
+                makes = m.makes;
+                all = m.all;
+                fixes = f.fixes;
+              });
+        }
+
+    visits_before : v.heap.phase ≡ Fixing → CompletesBefore v new root true ended events
+    visits_before fixing =
+        let both = c.fixing fixing in
+        let f = fixes_before v new root absent both.1 in
+        record {
+          plain = f.plain;
+          reserved = f.reserved;
+          completes = subst (λ events. IsCompletion v f.plain ended events) (sym both.0)
+              (fixes_complete v f.plain ended fixing (ap (λ (u : View). u.heap.phase) (sym f.reserved.becomes) ∙ c.idle) f.fixes);
+        }
+
+    place_before : CompletesBefore v new root true ended events
+    place_before = by v.heap.phase refl
+      where
+        by : (phase : Phase) → v.heap.phase ≡ phase → CompletesBefore v new root true ended events
+        by Moving at = moves_before at
+        by Fixing at = visits_before at
+        by _ at = rests_before ((λ e. cc), (λ e. cc))
+
+  by_place : (new : View) (root : List ℕ) (is_new : Bool) → (IsTrue is_new → root_word v.roots root ≡ None) →
+      IsCompletion (with_root_reserved v root is_new) new ended events → CompletesBefore v new root is_new ended events
+  by_place new root true absent c = place_before new root (absent refl) c
+  by_place new root false absent c = record {
+    plain = new;
+    reserved = record { becomes = refl; absent = λ is. absurd (false≢true is) };
+    completes = c;
+  }
+
+  pub completion_reserved : (r new : View) (root : List ℕ) (is_new : Bool) → IsReserved v r root is_new → IsCompletion r new ended events →
+      CompletesBefore v new root is_new ended events
+  completion_reserved r new root is_new reserved c =
+      by_place new root is_new reserved.absent (subst (λ (r : View). IsCompletion r new ended events) reserved.becomes c)
+
+-- a whole collection, without the place
+pub record CollectsBefore (v new : View) (root : List ℕ) (is_new : Bool) (ended scans : ℕ) (events : List Event) : Type 0 where
+  pub plain : View
+  pub reserved : IsReserved plain new root is_new
+  pub collects : IsCollected v plain Full ended scans events
+
+-- nor has it one in a marking
+telling_before : (p : View) (new : HeapView) (root : List ℕ) (is_new : Bool) (scans : ℕ) (told : List Event) → is_object p.heap 0 ≡ false →
+    IsTelling p.heap new Full (root_words (with_root_reserved p root is_new).roots) p.stack scans told →
+    IsTelling p.heap new Full (root_words p.roots) p.stack scans told
+telling_before p new root true scans told nothing t =
+    same_whole p.heap new (root_words p.roots ++ 0 ∷ []) (root_words p.roots) p.stack scans told (named_before p.heap (root_words p.roots) nothing)
+    (named_after p.heap (root_words p.roots))
+    (subst (λ words. IsTelling p.heap new Full words p.stack scans told) (reserved_words p root) t)
+telling_before p new root false scans told nothing t = t
+
+-- so it has none in a whole collection
+pub collection_reserved : (v : View) (s : State) → Holds v s → (r new : View) (root : List ℕ) (is_new : Bool) → IsReserved v r root is_new →
+    (ended scans : ℕ) (events : List Event) → IsCollected r new Full ended scans events → CollectsBefore v new root is_new ended scans events
+collection_reserved v s h r new root is_new reserved ended scans events c =
+    let first = completion_reserved v s h ended c.completion r c.idle root is_new reserved c.completes in
+    let p : View = first.plain in
+    let to : CompletesTo p s ended c.completion = completes_to v s h p ended c.completion first.completes in
+    record {
+      plain = with_judged p new.heap;
+      reserved = record {
+        becomes = c.judged ∙ ap (λ (u : View). with_judged u new.heap) first.reserved.becomes;
+        absent = first.reserved.absent;
+      };
+      collects = record {
+        idle = p;
         completion = c.completion;
-        completes = completes;
+        completes = first.completes;
         told = c.told;
-        tells = same_whole c.idle z (words ++ 0 ∷ []) words v.stack scans c.told (named_before c.idle words nothing) (named_after c.idle words) c.tells;
+        tells = telling_before p new.heap root is_new scans c.told (nothing_at_zero p to.state to.holds)
+            (subst (λ (u : View). IsTelling u.heap new.heap Full (root_words u.roots) u.stack scans c.told) first.reserved.becomes c.tells);
+        judged = refl;
         events_are = c.events_are;
-      }
+      };
+    }
 
-  collection_before : (root : List ℕ) (is_new : Bool) →
-      IsHeapCollection v.heap v.finals z g Full (root_words (with_root_reserved v root is_new).roots) v.stack ended scans events →
-      IsHeapCollection v.heap v.finals z g Full words v.stack ended scans events
-  collection_before root true c = same_collection
-      (subst (λ words. IsHeapCollection v.heap v.finals z g Full words v.stack ended scans events)
-      (map-append (λ (root : List ℕ × ℕ). root.1) v.roots ((root, 0) ∷ [])) c)
-  collection_before root false c = c
+-- a root that is there stays in the completion of a compaction
 
-  pub collection_reserved : (r : View) (root : List ℕ) (is_new : Bool) → IsReserved v r root is_new →
-      IsHeapCollection r.heap r.finals z g Full (root_words r.roots) r.stack ended scans events → IsHeapCollection v.heap v.finals z g Full words v.stack ended scans events
-  collection_reserved r root is_new reserved c = collection_before root is_new
-      (subst (λ (r : View). IsHeapCollection r.heap r.finals z g Full (root_words r.roots) r.stack ended scans events) reserved.becomes c)
+some_mapped : {X Y : Type 0} (f : X → Y) (found : Option X) → IsSome found → IsSome (option_map f found)
+some_mapped f None some = some
+some_mapped f (Some x) some = some
+
+fixes_there : (v new : View) → CompletesFixes v new → (root : List ℕ) → IsSome (root_word v.roots root) → IsSome (root_word new.roots root)
+fixes_there v new c root there =
+    let roots : new.roots ≡ resolved_roots c.fixed v.roots = ap (λ (u : View). u.roots) c.ends in
+    subst IsSome (sym (ap (λ roots. root_word roots root) roots ∙ root_word-resolved c.fixed v.roots root))
+    (some_mapped (resolved c.fixed) (root_word v.roots root) there)
+
+pub completion_there : (v new : View) (scans : ℕ) (events : List Event) → IsCompacting v.heap → IsCompletion v new scans events → (root : List ℕ) →
+    IsSome (root_word v.roots root) → IsSome (root_word new.roots root)
+completion_there v new scans events compacting c root there = ⊎_elim
+    (λ moving. let m = c.moving moving in fixes_there (fixing_begun (with_heap v m.packed)) new m.fixes root there)
+    (λ fixing. fixes_there v new (c.fixing fixing).1 root there)
+    compacting

@@ -5,11 +5,11 @@ use Rattle.std.proofs.KnownBytes.{Appends-nil, Appends-trans}
 use Rattle.space_io.specs.Sinks.{AppendsPrefix}
 use Rattle.std.proofs.lemmas.List.{append-nil}
 use Rattle.space_model.specs.declared.command.Command.{Command}
-use Rattle.space_model.specs.declared.command.Command.TheVariants.{New, Run, Minor, Gc, Major, Finish, Dump, Peek, Exit}
+use Rattle.space_model.specs.declared.command.Command.TheVariants.{New, Run, Minor, Gc, Major, Finish, Compact, Move, Dump, Peek, Exit}
 use Rattle.space_model.specs.declared.event.Event.{Event}
 use Rattle.space_model.specs.declared.reply.Reply.{Reply}
 use Rattle.space_model.specs.declared.reply.Reply.TheVariants.{Made, Full, NoMemory, Done, Pushed, Read, Truth, Number, GoneId, Removed, RanCount}
-use Rattle.space_model.specs.declared.reply.Reply.TheVariants.{Scanned, Marked, SweepCount, StatLine, Dumped, ExitRan, Refused}
+use Rattle.space_model.specs.declared.reply.Reply.TheVariants.{Scanned, Marked, SweepCount, MoveCount, FixCount, StatLine, Dumped, ExitRan, Refused}
 use Rattle.space_model.specs.Outputs.{Output, Told, Replied}
 use Rattle.space_model.specs.Given.{IsGiven}
 use Rattle.space_model.specs.Spelling.{IsSpelled}
@@ -45,7 +45,7 @@ quiet_plain command quiet = tt
 -- a command that told no events
 pub answered_silently : (old new : View) (command : Command) (reply : Reply) (known : Option (List ℕ)) (ticks ticked : ℕ) →
     ((s : State) → Holds old s → AnswersWith s new command [] reply) → ((s : State) → Holds old s → IsTicked s command [] reply ticks ticked) →
-    IsAnswered old new command reply 0 known known ticks ticked
+    IsAnswered old new command reply 0 0 known known ticks ticked
 answered_silently old new command reply known ticks ticked answer rose = record {
   events = [];
   lawful = record { answers = answer; spelled = λ s h. tt };
@@ -63,12 +63,14 @@ reply_ticked s Minor reply ticks ticked quiet rose = absurd quiet
 reply_ticked s Gc reply ticks ticked quiet rose = absurd quiet
 reply_ticked s Major reply ticks ticked quiet rose = absurd quiet
 reply_ticked s Finish reply ticks ticked quiet rose = absurd quiet
+reply_ticked s Compact reply ticks ticked quiet rose = absurd quiet
+reply_ticked s (Move count) reply ticks ticked quiet rose = absurd quiet
 reply_ticked s Exit reply ticks ticked quiet rose = absurd quiet
 reply_ticked s command reply ticks ticked quiet rose = rose
 
 pub answered_quietly : (old new : View) (command : Command) (reply : Reply) (known : Option (List ℕ)) (ticks ticked : ℕ) → IsQuiet command →
     ((s : State) → Holds old s → Answers s new command reply) → IsReplyTicked command reply ticks ticked →
-    IsAnswered old new command reply 0 known known ticks ticked
+    IsAnswered old new command reply 0 0 known known ticks ticked
 answered_quietly old new command reply known ticks ticked quiet answer rose =
     answered_silently old new command reply known ticks ticked
     (λ s h. let a = answer s h in record { state = a.state; represents = a.represents; effects = Effects-replied s command reply a.state a.replies })
@@ -88,6 +90,8 @@ counts_of_one GoneId = refl
 counts_of_one (Removed count) = refl
 counts_of_one (RanCount count) = refl
 counts_of_one (Scanned count) = refl
+counts_of_one (MoveCount moved done) = refl
+counts_of_one (FixCount fixed done) = refl
 counts_of_one (Marked scans grey) = refl
 counts_of_one (SweepCount freed left) = refl
 counts_of_one (StatLine stat) = refl
@@ -133,15 +137,15 @@ plain_ticked s command lines ticks ticked plain rose = rose
 
 -- a command that was answered, and its reply after that
 module _ (old new : View) (command : Command) (reply : Reply) where
-  pub written_whole : (gone : ℕ) (before middle after : Option (List ℕ)) (ticks ticked : ℕ) → IsPlain command →
-      IsAnswered old new command reply gone before middle ticks ticked → IsSpelled (reply_pieces reply) →
+  pub written_whole : (gone moves : ℕ) (before middle after : Option (List ℕ)) (ticks ticked : ℕ) → IsPlain command →
+      IsAnswered old new command reply gone moves before middle ticks ticked → IsSpelled (reply_pieces reply) →
       Appends middle after (line_of_pieces (reply_pieces reply)) →
-      IsWritten old new command (sum_of_counts (record no_counts { gone = gone }) (reply_counts reply)) before after ticks ticked
-  written_whole gone before middle after ticks ticked plain a spelled written = record {
+      IsWritten old new command (sum_of_counts (record no_counts { gone = gone; moves = moves }) (reply_counts reply)) before after ticks ticked
+  written_whole gone moves before middle after ticks ticked plain a spelled written = record {
     outputs = outputs a.events reply;
     lawful = outputs_lawful a.events reply old new command a.lawful spelled;
     done = λ s h. record {
-      counted = outputs_counts a.events reply (record no_counts { gone = gone }) a.counted;
+      counted = outputs_counts a.events reply (record no_counts { gone = gone; moves = moves }) a.counted;
       written = subst (Appends before after) (sym (outputs_text a.events reply))
           (Appends-trans before middle after (text_of (map Told a.events)) (line_of_pieces (reply_pieces reply)) a.written written);
       ticked = plain_ticked s command (outputs a.events reply) ticks ticked plain
@@ -150,10 +154,10 @@ module _ (old new : View) (command : Command) (reply : Reply) where
   }
 
   -- the reply was cut off
-  pub reply_cut : (gone : ℕ) (before middle after : Option (List ℕ)) (ticks ticked : ℕ) →
-      IsAnswered old new command reply gone before middle ticks ticked → IsSpelled (reply_pieces reply) →
+  pub reply_cut : (gone moves : ℕ) (before middle after : Option (List ℕ)) (ticks ticked : ℕ) →
+      IsAnswered old new command reply gone moves before middle ticks ticked → IsSpelled (reply_pieces reply) →
       AppendsPrefix middle after (line_of_pieces (reply_pieces reply)) → IsWrittenInPart old new command before after
-  reply_cut gone before middle after ticks ticked a spelled prefix = record {
+  reply_cut gone moves before middle after ticks ticked a spelled prefix = record {
     outputs = outputs a.events reply;
     lawful = outputs_lawful a.events reply old new command a.lawful spelled;
     prefix = subst (AppendsPrefix before after) (sym (outputs_text a.events reply))

@@ -14,7 +14,7 @@ use Rattle.space_heap.proofs.GoneLaws.{is_gone-with_object}
 use Rattle.space_heap.proofs.ObjectLaws.{stays, rest-with_object}
 use Rattle.space_collector.specs.PagesSwept.{LeavesRest}
 use Rattle.space_collector.specs.Quiescent.{IsQuiescent, most_slots}
-use Rattle.space_engine.specs.Turns.{IsAtRest, IsWork, IsOneTurn}
+use Rattle.space_engine.specs.Turns.{IsAtRest, IsWork, IsQuietWork, IsOneTurn}
 
 -- heaps that are at the same point, and in which the same is gone and moved; and outside a marking the same is grey
 pub record IsAlike (v w : HeapView) : Type 0 where
@@ -53,75 +53,85 @@ rests_idle w idle = (λ e. idle_moving (sym idle ∙ e), λ e. idle_fixing (sym 
     idle_fixing e = cc
 
 -- sweeps leave a heap at rest so
-rests_left : (v w : HeapView) → LeavesRest v w → IsAtRest v → IsAtRest w
+pub rests_left : (v w : HeapView) → LeavesRest v w → IsAtRest v → IsAtRest w
 rests_left v w rest rests = ⊎_elim (λ same. rests_alike v w same rests) (λ idle. rests_idle w idle) rest.phase
 
--- no count changed but that of objects, which rose by one at most, and a quiescent heap at rest stays such
-pub work_born : (k : ℕ) (v w : HeapView) (born : ℕ) → w.counters ≡ record v.counters { born = born } → born ≤ v.counters.born + 1 →
-    (IsQuiescent v → IsAtRest v → IsQuiescent w) → (IsAtRest v → IsAtRest w) → IsWork k v w
-work_born k v w born counters few quiescent rests =
+-- no count changed but that of objects, which rose by one at most, and a quiescent heap stays such
+pub work_born : (k n : ℕ) (v w : HeapView) (born : ℕ) → w.counters ≡ record v.counters { born = born } → born ≤ v.counters.born + 1 →
+    (IsQuiescent v → IsQuiescent w) → IsWork k n v w
+work_born k n v w born counters few quiescent =
     let same = ap (λ (c : Counters). c.born) counters in
     let minors = ap (λ (c : Counters). c.minor_verdicts) counters in
     let others = ap (λ (c : Counters). c.other_verdicts) counters in
     let freed = ap (λ (c : Counters). c.freed) counters in
+    let compactions = ap (λ (c : Counters). c.compactions) counters in
+    let moves = ap (λ (c : Counters). c.moves) counters in
     record {
       born = omega arith;
       minor_verdicts = omega arith;
       other_verdicts = omega arith;
       freed = omega arith;
+      compactions = omega arith;
+      moves = omega arith;
       quiescent = quiescent;
-      rests = rests;
     }
 
 -- no count changed at all
-pub work_uncounted : (k : ℕ) (v w : HeapView) → w.counters ≡ v.counters → (IsQuiescent v → IsAtRest v → IsQuiescent w) → (IsAtRest v → IsAtRest w) →
-    IsWork k v w
-work_uncounted k v w counters quiescent rests = work_born k v w v.counters.born counters (omega arith) quiescent rests
+pub work_uncounted : (k n : ℕ) (v w : HeapView) → w.counters ≡ v.counters → (IsQuiescent v → IsQuiescent w) → IsWork k n v w
+work_uncounted k n v w counters quiescent = work_born k n v w v.counters.born counters (omega arith) quiescent
 
 -- heaps that are alike, where no count changed
-pub turn_alike : (k : ℕ) (v w : HeapView) → IsAlike v w → w.counters ≡ v.counters → IsWork k v w
-turn_alike k v w alike counters = work_uncounted k v w counters (λ q rests. quiescent_alike v w alike q) (rests_alike v w alike.phase)
+pub turn_alike : (k n : ℕ) (v w : HeapView) → IsAlike v w → w.counters ≡ v.counters → IsWork k n v w
+turn_alike k n v w alike counters = work_uncounted k n v w counters (quiescent_alike v w alike)
 
 -- pages were swept, and no more slots freed than a heap has
-pub work_swept : (v w : HeapView) → LeavesRest v w → w.counters.freed ≤ v.counters.freed + most_slots → IsQuiescent w → IsWork 1 v w
+pub work_swept : (v w : HeapView) → LeavesRest v w → w.counters.freed ≤ v.counters.freed + most_slots → IsQuiescent w → IsWork 1 0 v w
 work_swept v w rest most quiescent =
     let born = ap (λ (c : Counters). c.born) rest.counters in
     let minors = ap (λ (c : Counters). c.minor_verdicts) rest.counters in
     let others = ap (λ (c : Counters). c.other_verdicts) rest.counters in
+    let compactions = ap (λ (c : Counters). c.compactions) rest.counters in
+    let moves = ap (λ (c : Counters). c.moves) rest.counters in
     record {
       born = omega arith;
       minor_verdicts = omega arith;
       other_verdicts = omega arith;
       freed = most;
-      quiescent = λ q rests. quiescent;
-      rests = rests_left v w rest;
+      compactions = omega arith;
+      moves = omega arith;
+      quiescent = λ q. quiescent;
     }
 
--- so many sweeps, and then so many more
-more_freed : (a b c j k most : ℕ) → b ≤ a + j * most → c ≤ b + k * most → c ≤ a + (j + k) * most
-more_freed a b c j k most first second = let all : (j + k) * most ≡ j * most + k * most = grind arith in omega (arith, all, first, second)
+-- so many times, and then so many times more
+more_times : (a b c j k most : ℕ) → b ≤ a + j * most → c ≤ b + k * most → c ≤ a + (j + k) * most
+more_times a b c j k most first second = let all : (j + k) * most ≡ j * most + k * most = grind arith in omega (arith, all, first, second)
 
 -- one piece of work after another, where the first allocated nothing and did no verdict
-pub work_then : (j k : ℕ) (v u w : HeapView) → IsWork j v u → IsWork k u w → u.counters.born ≡ v.counters.born →
-    u.counters.minor_verdicts ≡ v.counters.minor_verdicts → u.counters.other_verdicts ≡ v.counters.other_verdicts → IsWork (j + k) v w
-work_then j k v u w first second born minors others =
+pub work_then : (j k m n : ℕ) (v u w : HeapView) → IsQuietWork j m v u → IsWork k n u w → IsWork (j + k) (m + n) v w
+work_then j k m n v u w first second =
+    let born = first.born in
+    let minors = first.minor_verdicts in
+    let others = first.other_verdicts in
     let later_born = second.born in
     let later_minors = second.minor_verdicts in
     let later_others = second.other_verdicts in
+    let compactions = first.work.compactions in
+    let later_compactions = second.compactions in
     record {
       born = omega arith;
       minor_verdicts = omega arith;
       other_verdicts = omega arith;
-      freed = more_freed v.counters.freed u.counters.freed w.counters.freed j k most_slots first.freed second.freed;
-      quiescent = λ q rests. second.quiescent (first.quiescent q rests) (first.rests rests);
-      rests = λ rests. second.rests (first.rests rests);
+      freed = more_times v.counters.freed u.counters.freed w.counters.freed j k most_slots first.work.freed second.freed;
+      compactions = omega arith;
+      moves = more_times v.counters.moves u.counters.moves w.counters.moves m n most_slots first.work.moves second.moves;
+      quiescent = λ q. second.quiescent (first.work.quiescent q);
     }
 
 -- a field of an object was written
 pub turn_written : (v : HeapView) (address index word : ℕ) → IsOneTurn v (written v address index word)
 turn_written v address index word =
     let others = rest-with_object v address _ in
-    turn_alike 3 v (written v address index word) (record {
+    turn_alike 3 2 v (written v address index word) (record {
       phase = others.phase;
       unswept = others.unswept;
       grey = λ rests. others.grey;

@@ -21,11 +21,11 @@ pub record IsLawfulAnswer (old new : View) (command : Command) (events : List Ev
   pub answers : (s : State) → Holds old s → AnswersWith s new command events reply
   pub spelled : (s : State) → Holds old s → AreSpelled (map Told events)
 
--- some events and the reply are lawful, the events were written, they tell of so many gone objects, and the ledger's count rose as they tell
-pub record IsAnswered (old new : View) (command : Command) (reply : Reply) (gone : ℕ) (before after : Option (List ℕ)) (ticks ticked : ℕ) : Type 0 where
+-- some events and the reply are lawful, the events were written, they tell of so many gone objects and moves, and the ledger's count rose as they tell
+pub record IsAnswered (old new : View) (command : Command) (reply : Reply) (gone moves : ℕ) (before after : Option (List ℕ)) (ticks ticked : ℕ) : Type 0 where
   pub events : List Event
   pub lawful : IsLawfulAnswer old new command events reply
-  pub counted : counts_of (map Told events) ≡ record no_counts { gone = gone }
+  pub counted : counts_of (map Told events) ≡ record no_counts { gone = gone; moves = moves }
   pub written : Appends before after (text_of (map Told events))
   pub ticks_are : (s : State) → Holds old s → IsTicked s command events reply ticks ticked
 

@@ -1,7 +1,7 @@
 -- What is counted of the outputs of commands.
 use Rattle.std.specs.Prelude.{◌+◌, List, [], ◌∷◌}
 use Rattle.space_model.specs.declared.event.Event.{Event}
-use Rattle.space_model.specs.declared.event.Event.TheVariants.{Gone, Verdict, Ran}
+use Rattle.space_model.specs.declared.event.Event.TheVariants.{Gone, Verdict, Moved, Ran}
 use Rattle.space_model.specs.declared.reply.Reply.{Reply}
 use Rattle.space_model.specs.declared.reply.Reply.TheVariants.{Made, Full, NoMemory, Refused}
 use Rattle.space_model.specs.Outputs.{Output, Told, Listed, Peeked, Replied}
@@ -19,10 +19,11 @@ reply_counts NoMemory = record no_counts { no_memory = 1 }
 reply_counts (Refused why) = record no_counts { errors = 1 }
 reply_counts _ = no_counts
 
--- each object that is gone and each finalizer that ran count
+-- each object that is gone or was moved and each finalizer that ran count
 abbrev pub event_counts : Event → Counts
 event_counts (Gone name) = record no_counts { gone = 1 }
 event_counts (Verdict kind gone) = no_counts
+event_counts (Moved name from to) = record no_counts { moves = 1 }
 event_counts (Ran name label) = record no_counts { finals = 1 }
 
 -- both together

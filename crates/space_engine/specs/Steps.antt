@@ -2,7 +2,7 @@
 use Rattle.std.specs.Prelude.{◌≡◌, ℕ, List, [], ◌∷◌, Option}
 use Rattle.std.specs.Io.KnownBytes.{Appends}
 use Rattle.space_model.specs.declared.command.Command.{Command}
-use Rattle.space_model.specs.declared.command.Command.TheVariants.{New, Run, Minor, Gc, Major, Finish, Dump, Peek, Exit}
+use Rattle.space_model.specs.declared.command.Command.TheVariants.{New, Run, Minor, Gc, Major, Finish, Compact, Move, Dump, Peek, Exit}
 use Rattle.space_model.specs.declared.event.Event.{Event}
 use Rattle.space_model.specs.declared.reply.Reply.{Reply}
 use Rattle.space_model.specs.declared.reply.Reply.TheVariants.{Read}
@@ -33,6 +33,8 @@ IsEventful Minor = Unit {0}
 IsEventful Gc = Unit {0}
 IsEventful Major = Unit {0}
 IsEventful Finish = Unit {0}
+IsEventful Compact = Unit {0}
+IsEventful (Move count) = Unit {0}
 IsEventful _ = ⊥
 
 -- the command tells no events, and gives one reply
@@ -43,6 +45,8 @@ IsQuiet Minor = ⊥
 IsQuiet Gc = ⊥
 IsQuiet Major = ⊥
 IsQuiet Finish = ⊥
+IsQuiet Compact = ⊥
+IsQuiet (Move count) = ⊥
 IsQuiet Dump = ⊥
 IsQuiet (Peek object) = ⊥
 IsQuiet Exit = ⊥

@@ -1,12 +1,15 @@
 -- A space as its heap, its roots, its stack, its object ids, its weak maps and its finalizers; and how many commands it was given.
 use Rattle.std.specs.Prelude.{ℕ, Bool, false, List, [], ◌∷◌, ◌++◌, if◌then◌else◌}
+use Rattle.space_model.specs.declared.phase.Phase.TheVariants.{Idle, Moving, Fixing}
 use Rattle.space_heap.specs.HeapView.{HeapView, empty_heap}
 use Rattle.space_heap.specs.Objects.{written}
+use Rattle.space_heap.specs.Relocation.{ended}
+use Rattle.space_compact.specs.Visits.{resolved_roots}
 use Rattle.space_barrier.specs.Barrier.{is_marking, stored, unprotected}
 use Rattle.space_roots.specs.WordRoots.{with_root_word, without_root}
 use Rattle.space_finals.specs.FinalLists.{FinalLists}
-use Rattle.space_ids.specs.GivenIds.{GivenIds, with_id, purged as purged_ids}
-use Rattle.space_weak.specs.WeakEntries.{Entry, purged as purged_entries}
+use Rattle.space_ids.specs.GivenIds.{GivenIds, with_id, purged as purged_ids, refixed as refixed_ids}
+use Rattle.space_weak.specs.WeakEntries.{Entry, purged as purged_entries, refixed as refixed_entries}
 
 -- the parts of a space
 pub record View : Type 0 where
@@ -77,6 +80,23 @@ with_judged v heap = record v { heap = heap; ids = purged_ids heap v.ids; weak =
 -- the heap and the finalizers are these, in which what was under way was completed: in a marking by a verdict
 abbrev pub with_completed : View → HeapView → FinalLists → View
 with_completed v heap finals = if is_marking v.heap.phase then with_finals (with_judged v heap) finals else with_swept v heap finals
+
+-- objects may move from now on
+abbrev pub moving_begun : View → View
+moving_begun v = with_heap v (record v.heap { phase = Moving })
+
+-- the correction of references begins
+abbrev pub fixing_begun : View → View
+fixing_begun v = with_heap v (record v.heap { phase = Fixing; cursor = 0 })
+
+-- a compaction ended: the words of roots and the addresses that are kept of ids and weak maps are resolved, and the slots that objects left are free
+abbrev pub compaction_ended : View → View
+compaction_ended v = record v {
+  heap = record (ended v.heap) { phase = Idle; cursor = 0 };
+  roots = resolved_roots v.heap v.roots;
+  ids = refixed_ids v.heap v.ids;
+  weak = refixed_entries v.heap v.weak;
+}
 
 -- a field of the object at this address got the word, by the write barrier's rules
 abbrev pub with_field : View → ℕ → ℕ → ℕ → View

@@ -15,15 +15,12 @@ use Rattle.space_model.specs.Roots.{Root}
 use Rattle.space_heap.specs.HeapView.{HeapView}
 use Rattle.space_heap.specs.Objects.{is_object, object_of, resolved}
 use Rattle.space_roots.specs.WordRoots.{root_word}
+pub use Rattle.space_compact.specs.Visits.{resolved_roots}
 use Rattle.space_engine.specs.Views.{View}
 
 -- the roots, each with the word of its value
 abbrev pub word_roots : FinMap nat_cmp ℕ → List Root → List (List ℕ × ℕ)
 word_roots place roots = map (λ (root : Root). (root.0, value_word place root.1)) roots
-
--- the roots, each with its word resolved
-abbrev pub resolved_roots : HeapView → List (List ℕ × ℕ) → List (List ℕ × ℕ)
-resolved_roots heap words = map (λ (root : List ℕ × ℕ). (root.0, resolved heap root.1)) words
 
 -- the word of an operand: that of the root, resolved, or the word of the stack at that place from the top
 abbrev pub operand_word : View → Operand → Result ℕ Refusal

@@ -50,12 +50,13 @@ fn counts_of_reply(reply: &Reply) -> Counts
     }
 }
 
-/// What is counted of a reply and of so many gone objects.
-pub fn counts_of_answer(reply: &Reply, gone: u64) -> Counts
-    ensures { result ≡ sum_of_counts (record no_counts { gone = gone }) (reply_counts reply.now) }
+/// What is counted of a reply, of so many gone objects and of so many that were moved.
+pub fn counts_of_answer(reply: &Reply, gone: u64, moves: u64) -> Counts
+    ensures { result ≡ sum_of_counts (record no_counts { gone = gone; moves = moves }) (reply_counts reply.now) }
 {
     Counts {
         gone,
+        moves,
         ..counts_of_reply(reply)
     }
 }

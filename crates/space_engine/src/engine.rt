@@ -11,6 +11,7 @@ ghost use Rattle.space_engine.specs.Turns.{CanAnswer, IsOneTurn};
 ghost use Rattle.space_engine.specs.Views.{empty_view};
 
 mod collection_commands;
+mod compact_commands;
 mod completion;
 mod dump_commands;
 mod exit_command;
@@ -44,14 +45,21 @@ pub struct Answer {
     pub reply: Reply,
     /// How many objects the events tell to be gone.
     pub gone: u64,
+    /// How many moves they tell.
+    pub moves: u64,
 }
 
 // The answer of a command that told no events.
 fn silent(reply: Reply) -> Answer
     ensures reply { result.reply ≡ reply }
     ensures gone { result.gone ≡ 0 }
+    ensures moves { result.moves ≡ 0 }
 {
-    Answer { reply, gone: 0 }
+    Answer {
+        reply,
+        gone: 0,
+        moves: 0,
+    }
 }
 
 /// The objects in their slots, what roots and the stack hold, object ids, weak maps and finalizers.
@@ -115,7 +123,7 @@ impl Engine {
         requires given { IsGiven command.now }
         requires able { CanAnswer self.old.heap }
         requires steps { steps.old < 2 ^ 61 }
-        ensures done { IfOk result (λ answer. IsAnswered self.old self.new command.now answer.reply answer.gone (K.written sink.old) (K.written sink.new) steps.old steps.new) }
+        ensures done { IfOk result (λ answer. IsAnswered self.old self.new command.now answer.reply answer.gone answer.moves (K.written sink.old) (K.written sink.new) steps.old steps.new) }
         ensures fault { OnErr result (IsCutOff self.old self.new command.now (K.written sink.old) (K.written sink.new)) }
         ensures cause { HasCause (K.faults sink.old) (K.faults sink.new) result }
         ensures turn { IsOneTurn self.old.heap self.new.heap }
@@ -132,6 +140,8 @@ impl Engine {
             Command::Gc => self.collect_and_reply(Kind::Full, sink, steps),
             Command::Major => self.major(sink, steps),
             Command::Finish => self.finish(sink, steps),
+            Command::Compact => self.compact(sink, steps),
+            Command::Move { count } => self.move_objects(*count, sink, steps),
             _ => unreachable!(),
         }
     }
@@ -155,7 +165,7 @@ impl Engine {
     {
         let answer = self.answer(command, sink, steps)?;
         write_reply(&answer.reply, sink)?;
-        Ok(counts_of_answer(&answer.reply, answer.gone))
+        Ok(counts_of_answer(&answer.reply, answer.gone, answer.moves))
     }
 
     // Replies to a command that tells no events, and writes the reply.
@@ -178,7 +188,7 @@ impl Engine {
     {
         let reply = self.reply(command, steps);
         write_reply(&reply, sink)?;
-        Ok(counts_of_answer(&reply, 0))
+        Ok(counts_of_answer(&reply, 0, 0))
     }
 
     /// Carries out a command: its outputs are written, and the answer counts them. An `Err` comes after a failed write; what
@@ -203,8 +213,13 @@ impl Engine {
             Command::Dump => self.dump(sink, steps),
             Command::Peek { object } => self.peek(object, sink, steps),
             Command::Exit => self.exit(sink, steps),
-            Command::New { .. } | Command::Minor | Command::Gc | Command::Major | Command::Finish =>
-                self.answer_and_reply(command, sink, steps),
+            Command::New { .. }
+            | Command::Minor
+            | Command::Gc
+            | Command::Major
+            | Command::Finish
+            | Command::Compact
+            | Command::Move { .. } => self.answer_and_reply(command, sink, steps),
             _ => self.reply_and_write(command, sink, steps),
         }
     }

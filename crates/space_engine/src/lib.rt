@@ -2,6 +2,7 @@
 #![tactic(auto)]
 
 mod counts;
+mod discard;
 mod engine;
 mod refusals;
 mod space;

@@ -18,6 +18,7 @@ fn rank(why: Refusal) -> u8
         Refusal::Protected => 5,
         Refusal::NoId => 6,
         Refusal::NotMarking => 7,
+        Refusal::NotCompacting => 8,
     }
 }
 

@@ -71,7 +71,7 @@ pub fn answer_line<S: Source, K: Sink>(
     ensures number { IsTrue (is_none result) → (lines.new.number ≡ lines.old.number + 1) × (lines.new.number ≤ 2 ^ 32) }
     ensures able { IsTrue (is_none result) → space.new.is_spent ≡ false }
     ensures turns { IsTrue (is_none result) → space.new.turns ≤ space.old.turns + 1 }
-    ensures steps { IsTrue (is_none result) → steps.new ≤ steps.old + 2 ^ 28 }
+    ensures steps { IsTrue (is_none result) → steps.new ≤ steps.old + 2 ^ 26 }
 {
     let given = lines.number();
     if flush_before_read(lines, sink).is_err() {

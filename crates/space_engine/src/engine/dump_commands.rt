@@ -80,7 +80,7 @@ impl Engine {
         self.heap.page_count();
         let reply = self.list(sink, steps)?;
         write_reply(&reply, sink)?;
-        Ok(counts_of_answer(&reply, 0))
+        Ok(counts_of_answer(&reply, 0, 0))
     }
 
     /// Writes where the object stands and the words of its fields, as they are stored.
@@ -101,7 +101,7 @@ impl Engine {
             Err(why) => {
                 let reply = Reply::Refused { why };
                 write_reply(&reply, sink)?;
-                return Ok(counts_of_answer(&reply, 0));
+                return Ok(counts_of_answer(&reply, 0, 0));
             }
         };
         let words = peek_words(&self.heap, address, steps);

@@ -17,8 +17,9 @@ ghost use Rattle.space_engine.specs.Turns.{CanAnswer, IsOneTurn};
 ghost use Rattle.space_engine.specs.Views.{without_starts};
 
 use super::Engine;
+use super::completion::Completed;
 use crate::counts::{Counts, NONE};
-use space_collector::{Collected, collect, sweep_all, tell_gone};
+use space_collector::{collect, sweep_all, tell_gone};
 use space_io::{Sink, WriteFault};
 use space_model::{Kind, Ledger, Reply, Steps};
 use space_trace::write_reply;
@@ -36,14 +37,14 @@ impl Engine {
     // before it and by the verdict.
     fn tell_after<K: Sink>(
         &self,
-        ended: Result<Collected, WriteFault>,
+        ended: Result<Completed, WriteFault>,
         gone: u64,
         sink: &mut K,
-    ) -> Result<u64, WriteFault>
+    ) -> Result<Completed, WriteFault>
         requires counted { gone ≡ length (gone_names self.now.heap) }
         requires few { gone ≤ most_slots }
         requires few_before { IfOk ended (λ before. before.gone ≤ most_slots) }
-        ensures done { IfOk result (λ total. IfOk ended (λ before. (total ≡ before.gone + gone) × Appends (K.written sink.old) (K.written sink.new) (text_of (map Told (verdict_events Full (gone_names self.now.heap)))))) }
+        ensures done { IfOk result (λ total. IfOk ended (λ before. (total.gone ≡ before.gone + gone) × (total.moves ≡ before.moves) × Appends (K.written sink.old) (K.written sink.new) (text_of (map Told (verdict_events Full (gone_names self.now.heap)))))) }
         ensures told { IfOk result (λ total. OnErr ended ⊥) }
         ensures fault { OnErr result (MatchResult ended (λ before. AppendsPrefix (K.written sink.old) (K.written sink.new) (text_of (map Told (verdict_events Full (gone_names self.now.heap))))) (λ _. K.written sink.new ≡ K.written sink.old)) }
         ensures cause { IfOk ended (λ before. HasCause (K.faults sink.old) (K.faults sink.new) result) }
@@ -51,23 +52,26 @@ impl Engine {
     {
         let before = ended?;
         tell_gone(&self.heap, Kind::Full, gone, sink)?;
-        Ok(before.gone + gone)
+        Ok(Completed {
+            gone: before.gone + gone,
+            moves: before.moves,
+        })
     }
 
     // Completes what is under way, takes all roots and stack words away and collects whole, so that all objects are gone, writes the
-    // lines of both, and sweeps all pages. The answer is how many objects the lines tell to be gone. All of it is done after a
+    // lines of both, and sweeps all pages. The answer is what the lines tell. All of it is done after a
     // failed write too.
     fn empty_and_tell<K: Sink, L: Ledger>(
         &mut self,
         sink: &mut K,
         steps: &mut Steps<L>,
-    ) -> Result<u64, WriteFault>
+    ) -> Result<Completed, WriteFault>
         requires able { CanAnswer self.old.heap }
         requires steps { steps.old < 2 ^ 61 }
-        ensures done { IfOk result (λ gone. AreTold (IsTickedExit self.old self.new steps.old steps.new) gone (K.written sink.old) (K.written sink.new)) }
+        ensures done { IfOk result (λ told. AreTold (IsTickedExit self.old self.new steps.old steps.new) told.gone told.moves (K.written sink.old) (K.written sink.new)) }
         ensures fault { OnErr result (AreCut (λ events. (ended : ℕ) × IsEmptied self.old self.new ended events) (K.written sink.old) (K.written sink.new)) }
         ensures cause { HasCause (K.faults sink.old) (K.faults sink.new) result }
-        ensures judged { HasJudged 0 2 (2 * most_slots) self.old.heap self.new.heap }
+        ensures judged { HasJudged 0 2 (2 * most_slots) 1 self.old.heap self.new.heap }
         ensures steps { RisesByFewer most_ticks steps.old steps.new }
     {
         let ended = self.complete(sink, steps);
@@ -98,8 +102,8 @@ impl Engine {
     {
         let emptied = self.empty_and_tell(sink, steps);
         let waiting = self.finals.len();
-        let gone = match emptied {
-            Ok(gone) => gone,
+        let emptied = match emptied {
+            Ok(told) => told,
             Err(fault) => {
                 self.drop_queue();
                 return Err(fault);
@@ -108,7 +112,8 @@ impl Engine {
         let ran = self.run_and_tell(waiting, sink)?;
         write_reply(&Reply::ExitRan { count: ran }, sink)?;
         Ok(Counts {
-            gone,
+            gone: emptied.gone,
+            moves: emptied.moves,
             finals: ran,
             ..NONE
         })

@@ -9,6 +9,7 @@ ghost use Rattle.space_engine.specs.Steps.{Answers};
 ghost use Rattle.space_engine.specs.Ticks.{RisesByFewer, IsReplyTicked, most_ticks};
 ghost use Rattle.space_engine.specs.Turns.{CanAnswer, IsOneTurn};
 
+use super::completion::Completed;
 use super::{Answer, Engine, silent};
 use space_io::{Sink, WriteFault};
 use space_major as major;
@@ -27,8 +28,8 @@ impl Engine {
         steps: &mut Steps<L>,
     ) -> Result<Answer, WriteFault>
         requires able { CanAnswer self.old.heap }
-        requires steps { steps.old < 2 ^ 62 }
-        ensures done { IfOk result (λ answer. IsAnswered self.old self.new Major answer.reply answer.gone (K.written sink.old) (K.written sink.new) steps.old steps.new) }
+        requires steps { steps.old < 2 ^ 61 }
+        ensures done { IfOk result (λ answer. IsAnswered self.old self.new Major answer.reply answer.gone answer.moves (K.written sink.old) (K.written sink.new) steps.old steps.new) }
         ensures fault { OnErr result (IsCutOff self.old self.new Major (K.written sink.old) (K.written sink.new)) }
         ensures cause { HasCause (K.faults sink.old) (K.faults sink.new) result }
         ensures turn { IsOneTurn self.old.heap self.new.heap }
@@ -38,10 +39,11 @@ impl Engine {
 
         // This comes also after a failed write: the command is done then too.
         major::start(&mut self.heap, &self.roots, &self.stack);
-        let gone = ended?.gone;
+        let Completed { gone, moves } = ended?;
         Ok(Answer {
             reply: Reply::Done,
             gone,
+            moves,
         })
     }
 
@@ -73,7 +75,7 @@ impl Engine {
     ) -> Result<Answer, WriteFault>
         requires able { CanAnswer self.old.heap }
         requires steps { steps.old < 2 ^ 62 }
-        ensures done { IfOk result (λ answer. IsAnswered self.old self.new Finish answer.reply answer.gone (K.written sink.old) (K.written sink.new) steps.old steps.new) }
+        ensures done { IfOk result (λ answer. IsAnswered self.old self.new Finish answer.reply answer.gone answer.moves (K.written sink.old) (K.written sink.new) steps.old steps.new) }
         ensures fault { OnErr result (IsCutOff self.old self.new Finish (K.written sink.old) (K.written sink.new)) }
         ensures cause { HasCause (K.faults sink.old) (K.faults sink.new) result }
         ensures turn { IsOneTurn self.old.heap self.new.heap }
@@ -86,6 +88,7 @@ impl Engine {
         Ok(Answer {
             reply: Reply::Scanned { count: ended.scans },
             gone: ended.gone,
+            moves: 0,
         })
     }
 }

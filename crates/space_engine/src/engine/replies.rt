@@ -56,6 +56,7 @@ impl Engine {
             Command::Unfinal { object } => self.take_finals(object),
             Command::Mark { count } => self.mark(*count, steps),
             Command::Sweep { count } => self.sweep(*count),
+            Command::Fix { count } => self.fix(*count, steps),
             Command::Stat => self.stat(),
             Command::New { .. }
             | Command::Run { .. }
@@ -63,6 +64,8 @@ impl Engine {
             | Command::Gc
             | Command::Major
             | Command::Finish
+            | Command::Compact
+            | Command::Move { .. }
             | Command::Dump
             | Command::Peek { .. }
             | Command::Exit => unreachable!(),

@@ -9,7 +9,7 @@ invariant-each_line g l = record {
   number : l.lines.number ≤ 2 ^ 32;
   able : l.space.is_spent ≡ false;
   turns : l.space.turns ≤ l.lines.number;
-  steps : l.steps ≤ 2 ^ 28 * l.lines.number;
+  steps : l.steps ≤ 2 ^ 26 * l.lines.number;
   read_calm : g.S.Source.faults l.source ≡ g.S.Source.faults l.fn.source;
   write_calm : g.K.Sink.faults l.sink ≡ g.K.Sink.faults l.fn.sink;
 }

@@ -12,4 +12,4 @@ returns-in_err-scans-clause-fault g c = λ command by.
 pub returns-clause-done : goal.returns-clause-done
 returns-clause-done g c = λ command by.
     collection_answered c.args.self.now c.collect_and_tell.new.self c.requires.able command c.args.kind c.requires.other
-    by c.in_ok-scans.field-0.scans c.in_ok-scans.field-0.gone _ _ _ _ c.in_ok-scans.ensures.done
+    by c.in_ok-scans.field-0.scans c.in_ok-scans.field-0.gone c.in_ok-scans.field-0.moves _ _ _ _ c.in_ok-scans.ensures.done

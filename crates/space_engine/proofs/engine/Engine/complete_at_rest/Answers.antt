@@ -67,7 +67,7 @@ returns-clause-idle g c = elim c.if-eq.branch [
       let same = c.self-2.view_is ∙ w.self-is in
       let sound = subst (λ (v : View). IsSoundHeap v.heap) same c.sweep_all.ensures.sound_before in
       let sweeps = subst (λ (v : View). SweepsAll v.heap v.finals new.heap new.finals) same c.sweep_all.ensures.swept in
-      swept_idle old.heap old.finals new.heap new.finals (root_words old.roots) old.stack other sound sweeps c.requires.able.rests
+      swept_idle old.heap old.finals new.heap new.finals (root_words old.roots) old.stack other sound sweeps c.requires.rests
       (subst (λ (v : View). v.heap.phase ≡ Sweeping → new.heap.phase ≡ Idle) same c.sweep_all.ensures.idle)
       (subst (λ (v : View). v.heap.phase ≢ Sweeping → new.heap ≡ v.heap) same c.sweep_all.ensures.same)
 ]

@@ -2,7 +2,7 @@
 use Rattle.std.proofs.Common.{◌≡◌, [], ap, ◌∙◌, subst, arith}
 use Rattle.space_model.specs.declared.event.Kind.TheVariants.{Full}
 use Rattle.space_roots.specs.WordRoots.{root_words}
-use Rattle.space_collector.specs.declared.collection.Collected.{Collected}
+use Rattle.space_engine.specs.declared.engine.completion.Completed.{Completed}
 use Rattle.space_collector.specs.HeapVerdicts.{IsHeapVerdict}
 use Rattle.space_collector.specs.PagesSwept.{SweepsAll}
 use Rattle.space_engine.specs.Inside.{view_of}
@@ -57,8 +57,8 @@ returns-clause-done g c =
     let done = c.collect-collected in
     let told = ap (λ (v : View). v.heap) c.purge.ensures in
     emptied_done old mid.new.self done.new.heap (after g c)
-    done.result.scans (verdict g c) done.ensures.few (swept g c) (becomes g c) (λ (e : Collected). e.scans) (λ (e : Collected). e.gone) _ _ _ mid.result
-    c.tell_after-told.result done.result.gone _ _ _ mid.ensures.done mid.ensures.ticked done.ensures.gone done.ensures.ticked
+    done.result.scans (verdict g c) done.ensures.few (swept g c) (becomes g c) (λ (e : Completed). e.gone) (λ (e : Completed). e.moves) _ _ _ _ _ mid.result
+    c.tell_after-told.result done.result.gone _ mid.ensures.done done.ensures.gone done.ensures.ticked
     c.tell_after-told.ensures.told (rw told at c.tell_after-told.ensures.done)
 
 pub returns-clause-fault : goal.returns-clause-fault
@@ -68,7 +68,7 @@ returns-clause-fault g c =
     let done = c.collect-collected in
     let told = ap (λ (v : View). v.heap) c.purge.ensures in
     emptied_cut old mid.new.self done.new.heap (after g c)
-    done.result.scans (verdict g c) done.ensures.few (swept g c) (becomes g c) (λ (e : Collected). e.scans) (λ (e : Collected). e.gone) _ _ _ mid.result
+    done.result.scans (verdict g c) done.ensures.few (swept g c) (becomes g c) (λ (e : Completed). e.gone) (λ (e : Completed). e.moves) _ _ _ _ _ mid.result
     c.tell_after-told.result mid.ensures.done mid.ensures.fault (rw told at c.tell_after-told.ensures.fault)
 
 pub returns-clause-cause : goal.returns-clause-cause

@@ -25,7 +25,7 @@ returns-in_err-ran-clause-fault g c =
     let none = drop_of_length-le queue few in
     on_err c.from_residual.result _
     (running_cut_off c.args.self.now mid.new.self c.run_and_tell.new.self (rw none at c.run_and_tell.ensures.rest) c.requires.able
-    (rw all at c.run_and_tell.ensures.spelled) (omega (arith, few, most), tt) c.in-Ok.gone _ _ _ _ c.in-Ok.ensures.done _
+    (rw all at c.run_and_tell.ensures.spelled) (omega (arith, few, most), tt) c.in-Ok.told.gone c.in-Ok.told.moves _ _ _ _ c.in-Ok.ensures.done _
     (rw all at c.in_err-ran.ensures.fault))
 
 pub returns-in_err-write_reply-clause-fault : goal.returns-in_err-write_reply-clause-fault
@@ -40,7 +40,7 @@ returns-in_err-write_reply-clause-fault g c =
     let many : c.in_ok-ran.ran ≡ length queue = c.in_ok-ran.ensures.ran ∙ ap length all in
     on_err c.from_residual-in_err-write_reply.result _
     (reply_cut_off c.args.self.now mid.new.self c.run_and_tell.new.self (rw none at c.run_and_tell.ensures.rest) c.requires.able
-    (rw all at c.run_and_tell.ensures.spelled) (omega (arith, few, most), tt) c.in-Ok.gone _ _ _ _ c.in-Ok.ensures.done _ _
+    (rw all at c.run_and_tell.ensures.spelled) (omega (arith, few, most), tt) c.in-Ok.told.gone c.in-Ok.told.moves _ _ _ _ c.in-Ok.ensures.done _ _
     (rw all at c.in_ok-ran.ensures.done) (rw many at c.write_reply.ensures.prefix))
 
 pub returns-clause-done : goal.returns-clause-done
@@ -55,5 +55,5 @@ returns-clause-done g c =
     let many : c.in_ok-ran.ran ≡ length queue = c.in_ok-ran.ensures.ran ∙ ap length all in
     rw many
     (exit_written c.args.self.now mid.new.self c.run_and_tell.new.self (rw none at c.run_and_tell.ensures.rest) c.requires.able
-    (rw all at c.run_and_tell.ensures.spelled) (omega (arith, few, most), tt) c.in-Ok.gone _ _ _ _ c.in-Ok.ensures.done _ _
+    (rw all at c.run_and_tell.ensures.spelled) (omega (arith, few, most), tt) c.in-Ok.told.gone c.in-Ok.told.moves _ _ _ _ c.in-Ok.ensures.done _ _
     (rw all at c.in_ok-ran.ensures.done) (rw many at c.in_ok-write_reply.ensures.bytes))

@@ -6,7 +6,7 @@ use Rattle.space_engine.proofs.engine.Engine.finish.Goals as goal
 
 pub returns-then-ne-clause-done : goal.returns-then-ne-clause-done
 returns-then-ne-clause-done g c =
-    rw (c.silent.ensures.reply, c.silent.ensures.gone) (finish_refused c.args.self.now (search rules) _ _)
+    rw (c.silent.ensures.reply, c.silent.ensures.gone, c.silent.ensures.moves) (finish_refused c.args.self.now (search rules) _ _)
 
 pub returns-in_err-ended-clause-fault : goal.returns-in_err-ended-clause-fault
 returns-in_err-ended-clause-fault g c =

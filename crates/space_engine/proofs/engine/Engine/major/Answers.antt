@@ -25,7 +25,7 @@ returns-clause-done g c =
     let mid = c.complete-ended in
     let parts : View = view_of c.self.inside in
     major_answered c.args.self.now mid.new.self parts c.self.view_is mid.ensures.idle c.requires.able c.start.new.heap c.start.ensures
-    c.in_ok-gone.field-0.scans c.in_ok-gone.field-0.gone _ _ _ _ c.in_ok-gone.ensures.done c.in_ok-gone.ensures.ticked
+    c.in_ok-gone.field-0.gone c.in_ok-gone.field-0.moves _ _ _ _ c.in_ok-gone.ensures.done
 
 pub returns-clause-turn : goal.returns-clause-turn
 returns-clause-turn g c =

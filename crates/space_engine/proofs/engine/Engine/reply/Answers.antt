@@ -35,6 +35,9 @@ returns-in-Same-clause-answers g c = λ s h. rw c.in-Same.is (compared c.args.se
 pub returns-in-Mark-clause-answers : goal.returns-in-Mark-clause-answers
 returns-in-Mark-clause-answers g c = λ s h. rw c.in-Mark.is (c.mark.ensures.answers s h)
 
+pub returns-in-Fix-clause-answers : goal.returns-in-Fix-clause-answers
+returns-in-Fix-clause-answers g c = λ s h. rw c.in-Fix.is (c.fix.ensures.answers s h)
+
 pub returns-in-Sweep-clause-answers : goal.returns-in-Sweep-clause-answers
 returns-in-Sweep-clause-answers g c = λ s h. rw c.in-Sweep.is (c.sweep.ensures.answers s h)
 
