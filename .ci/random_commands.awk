@@ -1,6 +1,7 @@
 # Writes 10,000 random commands of a trace, always the same ones: the numbers are those of Park and Miller's minimal standard generator (1988).
 # What no collection changes is asked for, and nothing else: so of object ids, weak maps and finalizers only what rests on objects that are reached.
-# The last quarter of each thousand makes large objects, until a heap of three pages has no room for one while a marking is under way.
+# The last quarter of each thousand makes large objects, until a heap of three pages has no room for one while a marking is under way. A compaction
+# that `compact` begins is cut by the moves and corrections that the caller puts between the commands.
 
 # A number from 0 to n - 1.
 function below(n) {
@@ -111,8 +112,9 @@ function mutate(    pick) {
 }
 
 function collect(    pick) {
-    pick = below(14)
-    if (pick >= 13) say("run " below(20))
+    pick = below(17)
+    if (pick >= 14) say("compact")
+    else if (pick >= 13) say("run " below(20))
     else if (pick < 2) say("minor")
     else if (pick < 3) say("gc")
     else if (pick < 7) say("major")

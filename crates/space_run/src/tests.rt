@@ -1,5 +1,9 @@
 // `run` on traces in memory, with the answers that its definitions give, written out by hand.
 mod collections;
+mod compaction;
+mod compaction_completion;
+mod compaction_pins;
+mod compaction_session;
 mod completion;
 mod dumps;
 mod ends;
